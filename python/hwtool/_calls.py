@@ -196,8 +196,7 @@ def _unfitted(call_name: str, first: _Given, given: List[object], witness: _Give
 
 def unfit(model: Text, witness: Text, *, names: bool = False) -> Unfitted:
     """The witness of a BTOR2 model that says what one of the model says that `fit` makes of it: with names behind its words, or
-    without. The verdict has no claims. Raises Refused as `check_btor_fit` does, and where a state of a model with words alone has an
-    init and no next, or one of another with an init begins with no constant or has no next."""
+    without. The verdict has no claims. Raises Refused as `check_btor_fit` does."""
     first = _Given(model)
     return _unfitted("hwtool_unfit", first, [*first.words, bool(names)], _Given(witness))
 

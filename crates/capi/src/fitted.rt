@@ -1,7 +1,6 @@
 //! The calls on witnesses of fitted models.
 ghost use Rattle.std.specs.Prelude.{◌≡◌, ◌≤◌, Some};
 ghost use Rattle.verbs.specs.Fitting.{IsNotFitted};
-ghost use Rattle.verbs.specs.Whole.{IsNotUnfitted};
 ghost use Rattle.capi.specs.Buffers.{Fills, Needs};
 ghost use Rattle.capi.specs.Fitted.{CallJudgesFitted, CallSpreads, CallUnfits};
 ghost use Rattle.capi.specs.Stops.{Stops};
@@ -44,13 +43,10 @@ pub extern "C" fn hwtool_check_btor_fit(
 }
 
 /// Writes the witness of a BTOR2 model, with names or without, that says what the text of a witness of the fitted model says, and
-/// tells how it is judged. The model is one with words of up to 1,048,576 bits, or one of the whole language each of whose states
-/// with an init line begins with a constant and has a next line.
+/// tells how it is judged. The model is one of the whole language.
 ///
 /// Answers 0 where the witness stands at the front of the buffer, whose bytes behind it stay, and 1 where it is longer than the
-/// buffer, which stays then: after both `needed` is its length, and the verdict is told. 2 where the first text is no such model,
-/// with the number and the line of its first fault, as one with words alone where it is one of the whole language; 3 where a state
-/// of one with words alone has an init and no next, with the number of that and the id of the first such state; else 3 and 4 as of
+/// buffer, which stays then: after both `needed` is its length, and the verdict is told. Else 2, 3 and 4 as of
 /// `hwtool_check_btor_fit`. With 0, 1 and 4 the refusal stays, and without 0 and 1 verdict, buffer and `needed` do.
 #[unsafe(no_mangle)]
 pub extern "C" fn hwtool_unfit(
@@ -67,7 +63,7 @@ pub extern "C" fn hwtool_unfit(
         buffer.new needed.new }
     ensures small { result ≡ 1 → Needs (CallUnfits names model.now witness.now verdict.new)
         buffer.old buffer.new needed.new }
-    ensures stops { 2 ≤ result → Stops (IsNotUnfitted (Some model.now)) (λ _. ⊥) result refusal.old
+    ensures stops { 2 ≤ result → Stops (IsNotFitted (Some model.now)) (λ _. ⊥) result refusal.old
         refusal.new }
     ensures statuses { result ≤ 5 }
     ensures unwritten { 2 ≤ result → (verdict.new ≡ verdict.old)

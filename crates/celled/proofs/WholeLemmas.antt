@@ -1,5 +1,5 @@
 -- The nodes that have the words of a model's states, in the list that it is written out as, have their whole words in the list with cells.
-use Rattle.std.proofs.Common.{◌≡◌, ℕ, Bool, true, false, cond, List, [], ◌∷◌, ◌++◌, map, Option, Some, None, is_some, option_and_then, refl, sym, ap, subst, subst₂, ◌∙◌, inl, inr}
+use Rattle.std.proofs.Common.{◌≡◌, ℕ, zero, suc, Bool, true, false, cond, List, [], ◌∷◌, ◌++◌, map, Option, Some, None, is_some, slice_get, option_map, option_and_then, refl, sym, ap, subst, subst₂, ◌∙◌, inl, inr}
 use Rattle.std.specs.List.{AllByRecursion, AllZip}
 use Rattle.btor2.specs.declared.item.Item.{Item}
 use Rattle.btor2.specs.declared.item.Body.{Body}
@@ -17,7 +17,7 @@ use Rattle.fit.specs.Fitting.{Layout}
 use Rattle.celled.specs.Celled.{IsCelledOf}
 use Rattle.celled.specs.Spots.{Spots}
 use Rattle.celled.specs.Whole.{IsWhole, HasWholes}
-use Rattle.celled.specs.Written.{leaf_cells, IsWrittenInCells}
+use Rattle.celled.specs.Written.{leaf_cells, HasNodes, IsWrittenInCells}
 use Rattle.celled.proofs.CopiedLemmas.{sort_of_line}
 
 -- ---- nodes with a value
@@ -85,6 +85,16 @@ each_whole wide layout celled t place (x ∷ xs) has h = by (is_form is_state x.
     by true own rest = (has (place x.id) (own refl), rest)
     by false own rest = rest
 
+got : (f : ℕ → ℕ) (xs : List ℕ) (i : ℕ) → slice_get (map f xs) i ≡ option_map f (slice_get xs i)
+got f [] i = refl
+got f (x ∷ xs) zero = refl
+got f (x ∷ xs) (suc i) = got f xs i
+
+-- where two stand at one place they become one
+go_together : (f : ℕ → ℕ) (xs ys us vs : List ℕ) (i : ℕ) → us ≡ map f xs → vs ≡ map f ys → slice_get xs i ≡ slice_get ys i → slice_get us i ≡ slice_get vs i
+go_together f xs ys us vs i of_xs of_ys same =
+    ap (λ (l : List ℕ). slice_get l i) of_xs ∙ got f xs i ∙ ap (option_map f) same ∙ sym (got f ys i) ∙ sym (ap (λ (l : List ℕ). slice_get l i) of_ys)
+
 module _ (full : List FullLine) (p : Places) (wide : List Item) (h : IsWrittenOut full p wide) where
   each : AllByRecursion (λ (x : FullLine). is_form is_state x.says ≡ true → IsThere p wide x.id) full
   each =
@@ -104,12 +114,13 @@ module _ (full : List FullLine) (p : Places) (wide : List Item) (h : IsWrittenOu
   -- and so the model is written out with the nodes of the words
   pub words_whole : (inputs states : List ℕ) (celled : List Item) (t : Spots) (leaves nodes : List ℕ) → inputs ≡ leaf_cells is_input full → states ≡ leaf_cells is_state full ++ map (λ w. 1) (one_id p.first)
       → (c : IsCelledOf wide inputs states celled) × HasWholes wide c.layout celled t → leaves ≡ map t.node (map p.leaf (full_ids is_state full)) → nodes ≡ map t.node (map p.node (full_ids is_state full))
-      → (w : IsWrittenInCells full celled) × (AllZip (IsWhole w.wide w.cells.layout celled) (map w.places.leaf (full_ids is_state full)) leaves × AllZip (IsWhole w.wide w.cells.layout celled) (map w.places.node (full_ids is_state full)) nodes)
+      → (w : IsWrittenInCells full celled) × HasNodes full celled w leaves nodes
   words_whole inputs states celled t leaves nodes of_inputs of_states has at_leaves at_nodes =
       let own = subst₂ (λ (i s : List ℕ). (c : IsCelledOf wide i s celled) × HasWholes wide c.layout celled t) of_inputs of_states has in (
         record { places = p; wide = wide; written = h; cells = own.0 },
-        (
-          subst (AllZip (IsWhole wide own.0.layout celled) (map p.leaf (full_ids is_state full))) (sym at_leaves) (leaves_whole own.0.layout celled t own.1),
-          subst (AllZip (IsWhole wide own.0.layout celled) (map p.node (full_ids is_state full))) (sym at_nodes) (nodes_whole own.0.layout celled t own.1),
-        ),
+        record {
+          leaves = subst (AllZip (IsWhole wide own.0.layout celled) (map p.leaf (full_ids is_state full))) (sym at_leaves) (leaves_whole own.0.layout celled t own.1);
+          nodes = subst (AllZip (IsWhole wide own.0.layout celled) (map p.node (full_ids is_state full))) (sym at_nodes) (nodes_whole own.0.layout celled t own.1);
+          together = λ i same. go_together t.node (map p.leaf (full_ids is_state full)) (map p.node (full_ids is_state full)) leaves nodes i at_leaves at_nodes same;
+        },
       )

@@ -8,6 +8,7 @@ use Rattle.full.specs.WrittenOut.{Places, one_id, IsWrittenOut}
 use Rattle.celled.specs.declared.written.Leaves.{Leaves}
 use Rattle.celled.specs.declared.written.Leaves.TheVariants as leaves
 use Rattle.celled.specs.Celled.{IsCelledOf}
+use Rattle.celled.specs.Whole.{HasStateNodes}
 
 -- how many bits a cell of a value of a sort has, of a word as many as the word
 abbrev pub cell_bits : Option Sort → ℕ
@@ -33,6 +34,10 @@ pub record IsWrittenInCells (full : List FullLine) (celled : List Item) : Type 0
   pub wide : List Item
   pub written : IsWrittenOut full places wide
   pub cells : IsCelledOf wide (leaf_cells is_input full) (leaf_cells is_state full ++ map (λ w. 1) (one_id places.first)) celled
+
+-- these nodes of the list with cells have the words of the states' leaves, and those of the states
+abbrev pub HasNodes : (full : List FullLine) (celled : List Item) → IsWrittenInCells full celled → List ℕ → List ℕ → Type 0
+HasNodes full celled w leaves nodes = HasStateNodes full w.places w.wide w.cells.layout celled leaves nodes
 
 -- A model is written out as a list, in which its states have such nodes and such states of the list, in file order.
 abbrev pub IsWrittenWith : List FullLine → List Item → List ℕ → List ℕ → Type 0

@@ -1,15 +1,13 @@
 //! Models of the whole language, written out with a leaf for each cell of an array.
 ghost use Rattle.std.specs.Prelude.{◌≡◌, ◌++◌, [], ◌∷◌, true, false, Some, MatchOption, option_map, map, IfErr, IfOk, OnOk, length};
-ghost use Rattle.std.specs.List.{AllZip};
-ghost use Rattle.full.specs.Lines.{is_form, sort_named, full_ids};
+ghost use Rattle.full.specs.Lines.{is_form, sort_named};
 ghost use Rattle.full.specs.WrittenOut.{Places, IsWrittenOut, one_id};
 ghost use Rattle.fullmodel.specs.Lines.{line_of, sort_value};
 ghost use Rattle.fitting.specs.Models.{state_ids};
 ghost use Rattle.wide.specs.Lines.{item_of};
 ghost use Rattle.writeout.specs.Faults.{IsUnwritten, NoneIsLiveItem};
 ghost use Rattle.btor2.specs.Items.{is_state};
-ghost use Rattle.celled.specs.Written.{IsWrittenInCells, IsWrittenWith, cell_bits, cells_among, kind_of, leaf_cells};
-ghost use Rattle.celled.specs.Whole.{IsWhole};
+ghost use Rattle.celled.specs.Written.{HasNodes, IsWrittenInCells, IsWrittenWith, cell_bits, cells_among, kind_of, leaf_cells};
 
 use crate::splitting::split_with_table;
 use btor2::Body;
@@ -142,8 +140,7 @@ fn put_cells(alloc: Global, full: &FullModel, written: &Written) -> Result<Celle
     requires written { IsWrittenWith full.now written.now.wide written.now.nodes.items written.now.leaves.items }
     requires forms { NoneIsLiveItem written.now.wide }
     ensures written { IfOk result (λ c. (w : IsWrittenInCells full.now c.list)
-        × (AllZip (IsWhole w.wide w.cells.layout c.list) (map w.places.leaf (full_ids is_state full.now)) c.leaves.items
-        × AllZip (IsWhole w.wide w.cells.layout c.list) (map w.places.node (full_ids is_state full.now)) c.nodes.items)) }
+        × HasNodes full.now c.list w c.leaves.items c.nodes.items) }
     ensures forms { IfOk result (λ c. NoneIsLiveItem c.list) }
 {
     let Ok(inputs) = leaf_cells(alloc, full, Leaves::Inputs) else {
@@ -172,8 +169,7 @@ fn put_cells(alloc: Global, full: &FullModel, written: &Written) -> Result<Celle
 /// Errors: those of `write_out`.
 pub fn write_out_with_words(alloc: Global, full: &FullModel) -> Result<Celled, WriteFault>
     ensures written { IfOk result (λ c. (w : IsWrittenInCells full.now c.list)
-        × (AllZip (IsWhole w.wide w.cells.layout c.list) (map w.places.leaf (full_ids is_state full.now)) c.leaves.items
-        × AllZip (IsWhole w.wide w.cells.layout c.list) (map w.places.node (full_ids is_state full.now)) c.nodes.items)) }
+        × HasNodes full.now c.list w c.leaves.items c.nodes.items) }
     ensures forms { IfOk result (λ c. NoneIsLiveItem c.list) }
     ensures refused { IfErr result (IsUnwritten full.now) }
 {

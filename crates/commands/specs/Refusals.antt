@@ -12,7 +12,6 @@ use Rattle.verbs.specs.declared.refusals.Fault.{Fault}
 use Rattle.verbs.specs.Asked.{IsNotJudgedOverWith, IsNotJudgedWith}
 use Rattle.verbs.specs.Fitting.{IsNotFitted}
 use Rattle.verbs.specs.Refusals.{IsFaultyCertificate, IsNoCircuit, IsNoModel, IsNoVectorList, IsNotCertifiable, IsNotClaimable, IsNotClaimed, IsNotForEngines, IsNotGiven, IsNotJudged, IsNotLowered}
-use Rattle.verbs.specs.Whole.{IsNotUnfitted}
 use Rattle.verbs.specs.Outputs.{IsNotWithOutputs, IsNotWithOutputsForEngines}
 
 -- the first text has this fault, for which a command refuses it that asks for the claim of a bad property or not
@@ -38,7 +37,7 @@ RefusesTask (task.Model (model.LiftFound choice)) asked known f = IsNotClaimed c
 RefusesTask (task.Model (model.LiftForm choice)) asked known f = IsNotForEngines given.Model choice known f
 RefusesTask (task.Model (model.Wave shown)) asked known f = IsNotJudged known f
 RefusesTask (task.Model model.CheckFitted) asked known f = IsNotFitted known f
-RefusesTask (task.Model model.Unfit) asked known f = IsNotUnfitted known f
+RefusesTask (task.Model model.Unfit) asked known f = IsNotFitted known f
 RefusesTask (task.Model model.Spread) asked known f = IsNotFitted known f
 RefusesTask (task.Text (text.TidyWitness pick)) asked known f = ⊥
 RefusesTask (task.Text text.Vectors) asked known f = IsNoVectorList known f

@@ -38,7 +38,8 @@ use Rattle.fulljudge.specs.Judged.{HasStateWords}
 use Rattle.fulljudge.proofs.CelledLemmas.{by_part, begins_with_given}
 use Rattle.fulljudge.proofs.JudgedLemmas.{all_get, at_first}
 use Rattle.fulljudge.proofs.LawLemmas.{over_read, read_tells}
-use Rattle.fulljudge.proofs.PlacedLemmas.{from_map, leaf_places, state_places, none_found, one_found}
+use Rattle.fulljudge.proofs.PlacedLemmas.{leaf_places, state_places, none_found, one_found}
+use Rattle.fulljudge.proofs.StateNodeLemmas.{from_map}
 use Rattle.fulljudge.proofs.RunLemmas.{states_named}
 use Rattle.fulljudge.proofs.TextLemmas.{AreCounted}
 use Rattle.fulljudge.proofs.ToldLemmas.{WordsFit}
@@ -67,7 +68,7 @@ same_reading shape text = ap (lines_behind (word_reader shape) (so_far 0 nothing
 
 -- ---- leaves by their places
 
-from_places : (Of : ℕ → Leaf → Type 0) (k : ℕ) (leaves : List Leaf) → ((i : ℕ) (l : Leaf) → slice_get leaves i ≡ Some l → Of (k + first_index (map (λ (m : Leaf). m.sort) leaves) i) l) → ByIndex Of k leaves
+pub from_places : (Of : ℕ → Leaf → Type 0) (k : ℕ) (leaves : List Leaf) → ((i : ℕ) (l : Leaf) → slice_get leaves i ≡ Some l → Of (k + first_index (map (λ (m : Leaf). m.sort) leaves) i) l) → ByIndex Of k leaves
 from_places Of k [] h = tt
 from_places Of k (l ∷ leaves) h =
     let none : k + 0 ≡ k = omega arith in (

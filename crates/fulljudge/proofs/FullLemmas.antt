@@ -41,11 +41,11 @@ use Rattle.fulljudge.proofs.CelledLemmas.{IsOfKind, by_part, state_pieces, are_g
 use Rattle.fulljudge.proofs.ToldLemmas.{WordsFit, told_other}
 use Rattle.fulljudge.proofs.FirstLemmas.{StandAt, leaves_stand, BeginsSo, inits_hold, constant_told, own_of_pieces, init_fits}
 use Rattle.fulljudge.proofs.DifferLemmas.{get_at, Located, located, absence, WordDiffers, word_differs}
-use Rattle.fulljudge.proofs.JudgedLemmas.{at_first, all_get, constant_first, judged_by_trace, judged_to_differ}
+use Rattle.fulljudge.proofs.JudgedLemmas.{at_first, all_get, node_is_leaf, constant_first, judged_by_trace, judged_to_differ}
 
 -- ---- traces
 
-trace_exists : (items : List Item) (state : Frame) (inputs : List Frame) → IsWideModel greatest_width items → (fs : List Frame) × IsTrace items state inputs fs
+pub trace_exists : (items : List Item) (state : Frame) (inputs : List Frame) → IsWideModel greatest_width items → (fs : List Frame) × IsTrace items state inputs fs
 trace_exists items state [] w = ([], tt)
 trace_exists items state (input ∷ inputs) w =
     let first = wide_frame_exists greatest_width items state input w in
@@ -70,7 +70,7 @@ same_word c x e = by (nat_eq c x) refl e
     by false t e = absurd (cc e)
 
 -- where no initial word differs, each state begins so
-begins_so : (celled : List Item) (w : Words) (model : IsWideModel greatest_width celled) (distinct : AreDistinct (ids_of (λ x. is_state x.body) celled)) → first_different celled (initial_words celled w) ≡ None → BeginsSo celled model distinct (initial_words celled w)
+pub begins_so : (celled : List Item) (w : Words) (model : IsWideModel greatest_width celled) (distinct : AreDistinct (ids_of (λ x. is_state x.body) celled)) → first_different celled (initial_words celled w) ≡ None → BeginsSo celled model distinct (initial_words celled w)
 begins_so celled w model distinct none = λ q k names word.
     let found = state_item celled q names in
     let x : Item = found.0 in
@@ -132,7 +132,7 @@ module _ (full : List FullLine) (p : Places) (wide : List Item) (layout : Layout
       (λ l kinds. all_with (IsOfKind is_state celled) (λ q. names_state celled q ≡ true) (pieces l) (λ q is. named_state celled q is.0 is.1 is.2) kinds)
       (state_pieces full p wide layout celled h c model distinct_inputs distinct_states)
 
-  constants_of : (w : Words) → BeginsSo celled model distinct_states (initial_words celled w) → ByIndex (λ i l. WordsFit (initial_part w.frames) l.sort i) 0 leaves → ByIndex (ConstantTold p wide (initial_part w.frames)) 0 leaves
+  pub constants_of : (w : Words) → BeginsSo celled model distinct_states (initial_words celled w) → ByIndex (λ i l. WordsFit (initial_part w.frames) l.sort i) 0 leaves → ByIndex (ConstantTold p wide (initial_part w.frames)) 0 leaves
   constants_of w so fit =
       by_index (λ (l : Leaf). AllByRecursion (λ q. names_state celled q ≡ true) (pieces l)) (λ i l. (StandAt states (pieces l) i × (map (bits_of celled) (pieces l) ≡ word_widths l.sort)) × WordsFit (initial_part w.frames) l.sort i)
       (ConstantTold p wide (initial_part w.frames)) 0 leaves
@@ -145,22 +145,23 @@ module _ (full : List FullLine) (p : Places) (wide : List Item) (layout : Layout
 
   -- ---- a word that differs is one of a state that is told otherwise
 
-  module _ (w : Words) (k : ℕ) (d : WordDiffers celled w k) (fit : TellsWords full celled w) where
+  pub given_here : (w : Words) (k : ℕ) (d : WordDiffers celled w k) → given (initial_part w.frames) k ≡ Some d.told
+  given_here w k d =
+      ap (given (initial_part w.frames)) (sym d.found.at) ∙ sym (given_at is_state celled (initial_part w.frames) d.found.before d.found.after d.found.one distinct_states d.found.is) ∙ d.given
+
+  module _ (w : Words) (k : ℕ) (d : WordDiffers celled w k) (fit_words : ByIndex (λ i l. WordsFit (initial_part w.frames) l.sort i) 0 leaves) (of_state : k < length (flat_map (λ (l : Leaf). word_widths l.sort) leaves)) where
     abbrev list : List (ℕ × ℕ)
     list = initial_part w.frames
 
     abbrev word : ℕ
     word = d.found.one
 
-    given_here : given list k ≡ Some d.told
-    given_here = ap (given list) (sym d.found.at) ∙ sym (given_at is_state celled list d.found.before d.found.after word distinct_states d.found.is) ∙ d.given
-
     counts : AllByRecursion (λ (l : Leaf). length (pieces l) ≡ word_count l.sort) leaves
     counts = piece_counts (bits_of celled) pieces leaves c.state_words
 
     here : slice_get (flat_map pieces leaves) k ≡ Some word
     here =
-        in_front (flat_map pieces leaves) c.more k word (subst (λ (n : ℕ). k < n) (sym (total_count pieces leaves counts)) (fit.few k d.told given_here))
+        in_front (flat_map pieces leaves) c.more k word (subst (λ (n : ℕ). k < n) (sym (total_count pieces leaves counts)) of_state)
         (ap (λ (xs : List ℕ). slice_get xs k) (c.states ∙ d.found.is) ∙ ap (slice_get (d.found.before ++ word ∷ d.found.after)) (sym d.found.at) ∙ get_at d.found.before d.found.after word)
 
     where_is : Located pieces leaves k word
@@ -190,6 +191,12 @@ module _ (full : List FullLine) (p : Places) (wide : List Item) (layout : Layout
             let none = all_at_get (λ q. init_value celled q ≡ None) (layout a) where_is.word word (absence wide celled layout c.fits model a (placed full p wide leaf.id h names).state e) where_is.inside in
             absurd (none-some d.constant (sym (ap (option_and_then (constant_of celled)) none) ∙ d.begins))
 
+    -- its node is its leaf
+    pub own_node : (l : Leaf) → slice_get leaves (value_of_word sorts k) ≡ Some l → p.node l.id ≡ p.leaf l.id
+    own_node l there =
+        subst (λ (m : Leaf). p.node m.id ≡ p.leaf m.id) (same_Some leaf l (sym where_is.there ∙ ap (slice_get leaves) (sym where_is.owner) ∙ there))
+        (node_is_leaf full p wide h leaf.id its_init.0 names its_init.1)
+
     abbrev constant : ℕ
     constant = joined celled layout (init_words celled) a
 
@@ -198,7 +205,7 @@ module _ (full : List FullLine) (p : Places) (wide : List Item) (layout : Layout
 
     is_told_otherwise : told list leaf.sort index constant ≡ constant → ⊥
     is_told_otherwise same =
-        told_other list leaf.sort index constant where_is.word d.told (at_first (λ i l. WordsFit list l.sort i) where_is.place leaves leaf fit.words where_is.there) where_is.within (ap (given list) (sym where_is.is) ∙ given_here)
+        told_other list leaf.sort index constant where_is.word d.told (at_first (λ i l. WordsFit list l.sort i) where_is.place leaves leaf fit_words where_is.there) where_is.within (ap (given list) (sym where_is.is) ∙ given_here w k d)
         (λ own. d.other (own ∙ own_of_pieces (bits_of celled) (init_words celled) leaf.sort where_is.word word (layout a) stand.1 (init_fits celled model distinct_states (layout a)) where_is.inside ∙ ap (λ (o : Option ℕ). unwrap_or o 0) d.begins)) same
 
     differs_in : (state input g : Frame) → IsInitial wide state → IsFrame wide state input g → DiffersAt full list (read_by p g) (value_of_word sorts k)
@@ -228,20 +235,20 @@ module _ (full : List FullLine) (p : Places) (wide : List Item) (layout : Layout
   none_given None = refl
   none_given (Some i) = refl
 
-  first_differs : (w : Words) (k : ℕ) (d : WordDiffers celled w k) (fit : TellsWords full celled w) (ws : List FrameWords) (state : Frame) (inputs gs : List Frame) → w.frames ≡ ws → IsInitial wide state → IsTrace wide state inputs gs
+  pub first_differs : (w : Words) (k : ℕ) (d : WordDiffers celled w k) (fit : ByIndex (λ i l. WordsFit (initial_part w.frames) l.sort i) 0 leaves) (of_state : k < length (flat_map (λ (l : Leaf). word_widths l.sort) leaves)) (ws : List FrameWords) (state : Frame) (inputs gs : List Frame) → w.frames ≡ ws → IsInitial wide state → IsTrace wide state inputs gs
       → AreGiven full p wide state ws inputs → FirstDiffers full ws (map (read_by p) gs) (value_of_word sorts k)
-  first_differs w k d fit [] state inputs gs e initial trace given = absurd (none-some d.told (sym (ap (λ (l : List FrameWords). given_to is_state celled (initial_part l) d.found.one) e ∙ none_given (index_of is_state celled d.found.one)) ∙ d.given))
-  first_differs w k d fit (f ∷ fs) state [] gs e initial trace given = absurd given
-  first_differs w k d fit (f ∷ fs) state (i ∷ inputs) [] e initial trace given = absurd trace
-  first_differs w k d fit (f ∷ fs) state (i ∷ inputs) (g ∷ gs) e initial trace given =
-      subst (λ (l : List FrameWords). DiffersAt full (initial_part l) (read_by p g) (value_of_word sorts k)) e (differs_in w k d fit state i g initial trace.0)
+  first_differs w k d fit of_state [] state inputs gs e initial trace given = absurd (none-some d.told (sym (ap (λ (l : List FrameWords). given_to is_state celled (initial_part l) d.found.one) e ∙ none_given (index_of is_state celled d.found.one)) ∙ d.given))
+  first_differs w k d fit of_state (f ∷ fs) state [] gs e initial trace given = absurd given
+  first_differs w k d fit of_state (f ∷ fs) state (i ∷ inputs) [] e initial trace given = absurd trace
+  first_differs w k d fit of_state (f ∷ fs) state (i ∷ inputs) (g ∷ gs) e initial trace given =
+      subst (λ (l : List FrameWords). DiffersAt full (initial_part l) (read_by p g) (value_of_word sorts k)) e (differs_in w k d fit of_state state i g initial trace.0)
 
   -- ---- the judgement
 
   pub bads_count : length (nodes_of is_bad celled) ≡ length (nodes_of is_bad wide)
   bads_count = sym (length-map (nodes_of is_bad celled) (λ q. q ∷ [])) ∙ sym (ap length c.fits.bads) ∙ length-map (nodes_of is_bad wide) layout
 
-  stays_judged : (breach : Option Violation) (unreached : Option ℕ) (n : ℕ) → judged_by sorts None (first_of None breach unreached n) ≡ first_of None breach unreached n
+  pub stays_judged : (breach : Option Violation) (unreached : Option ℕ) (n : ℕ) → judged_by sorts None (first_of None breach unreached n) ≡ first_of None breach unreached n
   stays_judged (Some v) unreached n = refl
   stays_judged None (Some claim) n = refl
   stays_judged None None n = refl
@@ -252,7 +259,7 @@ module _ (full : List FullLine) (p : Places) (wide : List Item) (layout : Layout
   is_to_differ i None None n = refl
 
   -- words with those of the init lines put at the states that have one
-  abbrev agreeing : Words → Frame
+  abbrev pub agreeing : Words → Frame
   agreeing w q = unwrap_or (init_word celled q) (initial_words celled w q)
 
   agreeing_fits : (w : Words) (id : ℕ) (b : Body) → StateFits celled (initial_words celled w) id b → StateFits celled (agreeing w) id b
@@ -263,19 +270,20 @@ module _ (full : List FullLine) (p : Places) (wide : List Item) (layout : Layout
       by (Some x) e below = subst (λ (o : Option ℕ). unwrap_or o 0 < 2 ^ bits_of celled id) e (init_words_fit celled id model)
   agreeing_fits w id _ fits = tt
 
-  agreeing_initial : (w : Words) → IsState celled (initial_words celled w) → IsInitial celled (agreeing w)
+  pub agreeing_initial : (w : Words) → IsState celled (initial_words celled w) → IsInitial celled (agreeing w)
   agreeing_initial w fits =
       record {
         fits = all_with (λ (x : Item). StateFits celled (initial_words celled w) x.id x.body) (λ (x : Item). StateFits celled (agreeing w) x.id x.body) celled (λ x. agreeing_fits w x.id x.body) fits;
         inits = inits_hold celled model distinct_states (agreeing w) (λ q k names e. sym (ap (λ (o : Option ℕ). unwrap_or o (initial_words celled w q)) e));
       }
 
-  given_by : (w : Words) (begin : Frame) → ((q : ℕ) → init_word celled q ≡ None → begin q ≡ by_part is_state celled (initial_part w.frames) q)
+  pub given_by : (w : Words) (begin : Frame) → ((q : ℕ) → init_word celled q ≡ None → begin q ≡ by_part is_state celled (initial_part w.frames) q)
       → AreGiven full p wide (joined celled layout begin) w.frames (map (joined celled layout) (given_frames celled w))
   given_by w begin begins = are_given full p wide layout celled h c model distinct_inputs distinct_states begin w.frames begins
 
   judged_otherwise : (w : Words) (fit : TellsWords full celled w) (k : ℕ) → first_different celled (initial_words celled w) ≡ Some k → IsJudged full w (judgement.InitDiffers (value_of_word sorts k))
   judged_otherwise w fit k e =
+      let d = word_differs celled w k e in
       let begin : Frame = agreeing w in
       let trace = trace_exists celled begin (given_frames celled w) model in
       let initial = agreeing_initial w fit.state in
@@ -283,7 +291,7 @@ module _ (full : List FullLine) (p : Places) (wide : List Item) (layout : Layout
       let above = wide_initial wide celled layout c.fits begin initial in
       let given = given_by w begin (λ q none. ap (λ (o : Option ℕ). unwrap_or o (initial_words celled w q)) none ∙ begins_with_given celled w q none) in
       judged_to_differ full p wide h w (joined celled layout begin) (map (joined celled layout) (given_frames celled w)) (map (joined celled layout) trace.0) (value_of_word sorts k) above up.1 up.2 given
-      (first_differs w k (word_differs celled w k e) fit w.frames (joined celled layout begin) (map (joined celled layout) (given_frames celled w)) (map (joined celled layout) trace.0) refl above up.2 given)
+      (first_differs w k d fit.words (fit.few k d.told (given_here w k d)) w.frames (joined celled layout begin) (map (joined celled layout) (given_frames celled w)) (map (joined celled layout) trace.0) refl above up.2 given)
 
   -- what is judged over such a list makes what is judged over the model
   pub judged : (w : Words) (fit : TellsWords full celled w) (j : Judgement) (d : Option ℕ) → JudgesWords celled w j

@@ -1,5 +1,5 @@
 -- What is judged by a trace of the list that a model is written out as.
-use Rattle.std.proofs.Common.{◌≡◌, ℕ, zero, suc, ◌+◌, Bool, true, false, cond, eq-eqb, List, [], ◌∷◌, map, flat_map, length, slice_get, Some, None, is_some, option_and_then, refl, sym, ap, ap₂, subst, ◌∙◌, ⊎_elim, inl, inr, arith}
+use Rattle.std.proofs.Common.{◌≡◌, ℕ, zero, suc, ◌+◌, Bool, true, false, cond, eq-eqb, List, [], ◌∷◌, map, flat_map, length, slice_get, Option, Some, None, is_some, option_and_then, refl, sym, ap, ap₂, subst, ◌∙◌, ⊎_elim, inl, inr, arith}
 use Rattle.std.specs.List.{AllByRecursion, AllZip}
 use Rattle.std.proofs.lemmas.Bool.{true≢false}
 use Rattle.std.proofs.lemmas.List.{length-append}
@@ -76,6 +76,16 @@ all_get P (y ∷ ys) (suc i) x h e = all_get P ys i x h.1 e
 -- ---- first words
 
 module _ (full : List FullLine) (p : Places) (wide : List Item) (h : IsWrittenOut full p wide) where
+  -- a state whose leaf has an init line has that for its node
+  pub node_is_leaf : (id v : ℕ) → names_full_state full id ≡ true → init_value wide (p.leaf id) ≡ Some v → p.node id ≡ p.leaf id
+  node_is_leaf id v names begins = by (init_of full id) refl
+    where
+      by : (o : Option Operand) → init_of full id ≡ o → p.node id ≡ p.leaf id
+      by None e = ((placed full p wide id h names).no_init e).0
+      by (Some o) e =
+          ⊎_elim (λ (same : IsAsItIs full p wide id o). same.same) (λ (choice : IsByFirstWord full p wide id o). absurd (none-some v (sym choice.begins_open ∙ begins)))
+          (init_said (InitIsWritten full p wide) full id o h.inits e)
+
   pub constant_first : (state input g : Frame) (id x : ℕ) → IsInitial wide state → IsFrame wide state input g → names_full_state full id ≡ true → p.node id ≡ p.leaf id → init_word wide (p.leaf id) ≡ Some x → g (p.node id) ≡ x
   constant_first state input g id x initial frame names same begins =
       let init = then_parts (constant_of wide) (init_value wide (p.leaf id)) x begins in

@@ -1,5 +1,5 @@
 -- A text is judged over a model of the whole language by what is judged of the text of words that says the same.
-use Rattle.std.proofs.Common.{◌≡◌, ℕ, ◌+◌, ◌<◌, ◌^◌, Bool, true, false, List, [], ◌∷◌, ◌++◌, map, length, Option, IfSome, Result, Ok, Err, refl, sym, ap, ap₂, subst, ◌∙◌, arith}
+use Rattle.std.proofs.Common.{◌≡◌, ℕ, ◌+◌, ◌<◌, ◌^◌, Bool, true, false, List, [], ◌∷◌, ◌++◌, map, flat_map, length, Option, IfSome, Result, Ok, Err, refl, sym, ap, ap₂, subst, ◌∙◌, append-nil, arith}
 use Rattle.std.specs.List.{AllByRecursion}
 use Rattle.base.specs.Lines.{whole_lines}
 use Rattle.btor2.specs.declared.item.Item.{Item}
@@ -64,7 +64,7 @@ module _ (full : List FullLine) (p : Places) (wide : List Item) (layout : Layout
         state = state_fits celled w model (had first.states) part over.0.0;
         inputs = subst (λ (l : List Parts). AllByRecursion (IsInput celled) (map (given_words celled) (map frame_words l))) (sym e) (all_inputs_fit celled (shape_of celled) (first ∷ later) refl refl over);
         words = subst (λ (list : List (ℕ × ℕ)). ByIndex (λ i l. (k : ℕ) → k < word_count l.sort → IfSome (given list (i + k)) (λ v. v < 2 ^ word_width l.sort)) 0 (leaves_of is_state full)) (sym part)
-            (words_fit (had first.states) base.states [] (leaves_of is_state full) 0 fused refl below.0.0);
+            (words_fit (had first.states) base.states [] [] (leaves_of is_state full) 0 (fused ∙ sym (append-nil (flat_map (λ (l : Leaf). word_widths l.sort) (leaves_of is_state full)))) refl below.0.0);
         few = λ k v told. subst (λ (l : List ℕ). k < length l) fused (given_within base.states (had first.states) k v below.0.0 (ap (λ (list : List (ℕ × ℕ)). given list k) (sym part) ∙ told));
       }
 
@@ -90,19 +90,25 @@ module _ (full : List FullLine) (p : Places) (wide : List Item) (layout : Layout
     abbrev sorts : List Sort
     sorts = map (λ (l : Leaf). l.sort) (leaves_of is_state full)
 
-    by_read : (d : Option ℕ) (j : Judgement) (none : Bool) (read : Result Read Fault) → text_read (full_reader (full_shape full)) text ≡ read → ((r : Read) → read ≡ Ok r → Compares (words_of (witness_of r)) d)
-        → JudgesAs (λ r. JudgesWords celled (words_of (witness_of r))) none read j → JudgesAs (λ r. IsJudged full (words_of (witness_of r))) none read (judged_by sorts d j)
-    by_read d j true read e compares judges = ap (judged_by sorts d) judges
-    by_read d j false (Err fault) e compares judges = ap (judged_by sorts d) judges
-    by_read d j false (Ok r) e compares judges =
-        judged full p wide layout celled h c model distinct_inputs distinct_states (words_of (witness_of r)) (read_tells r e) j d judges (compares r refl)
+    by_read : (Says : Read → Judgement → Type 0) (d : Option ℕ) (j : Judgement) (none : Bool) (read : Result Read Fault) → ((r : Read) → read ≡ Ok r → Says r j → IsJudged full (words_of (witness_of r)) (judged_by sorts d j))
+        → JudgesAs Says none read j → JudgesAs (λ r. IsJudged full (words_of (witness_of r))) none read (judged_by sorts d j)
+    by_read Says d j true read is judges = ap (judged_by sorts d) judges
+    by_read Says d j false (Err fault) is judges = ap (judged_by sorts d) judges
+    by_read Says d j false (Ok r) is judges = is r refl judges
+
+    -- by what is said of what the text of words reads as
+    pub text_judged_by : (Says : Read → Judgement → Type 0) (d : Option ℕ) (j : Judgement) → ((r : Read) → text_read (full_reader (full_shape full)) text ≡ Ok r → Says r j → IsJudged full (words_of (witness_of r)) (judged_by sorts d j))
+        → JudgesAs Says (makes_no_claim 0 (whole_lines (words_text (full_shape full) text))) (text_read (word_reader (shape_of celled)) (words_text (full_shape full) text)) j → JudgesFull full text (judged_by sorts d j)
+    text_judged_by Says d j is judges =
+        by_read Says d j (makes_no_claim 0 (whole_lines text)) (text_read (full_reader (full_shape full)) text) is
+        (subst (λ (b : Bool). JudgesAs Says b (text_read (full_reader (full_shape full)) text) j) (claims_alike (full_shape full) text few own_small.bads)
+        (subst (λ (read : Result Read Fault). JudgesAs Says (makes_no_claim 0 (whole_lines (words_text (full_shape full) text))) read j) over_read judges))
 
     pub text_judged : (d : Option ℕ) (j : Judgement) → ((r : Read) → text_read (full_reader (full_shape full)) text ≡ Ok r → Compares (words_of (witness_of r)) d) → Judges celled (words_text (full_shape full) text) j
         → JudgesFull full text (judged_by sorts d j)
     text_judged d j compares judges =
-        by_read d j (makes_no_claim 0 (whole_lines text)) (text_read (full_reader (full_shape full)) text) refl compares
-        (subst (λ (b : Bool). JudgesAs (λ r. JudgesWords celled (words_of (witness_of r))) b (text_read (full_reader (full_shape full)) text) j) (claims_alike (full_shape full) text few own_small.bads)
-        (subst (λ (read : Result Read Fault). JudgesAs (λ r. JudgesWords celled (words_of (witness_of r))) (makes_no_claim 0 (whole_lines (words_text (full_shape full) text))) read j) over_read judges))
+        text_judged_by (λ r. JudgesWords celled (words_of (witness_of r))) d j
+        (λ r e says. judged full p wide layout celled h c model distinct_inputs distinct_states (words_of (witness_of r)) (read_tells r e) j d says (compares r e)) judges
 
 -- the same of any such list
 pub text_is_judged : (full : List FullLine) (p : Places) (wide : List Item) (layout : Layout) (celled : List Item) (text : List ℕ) (d : Option ℕ) (j : Judgement) → IsWrittenOut full p wide → HasWordsOf full p wide layout celled

@@ -22,7 +22,9 @@ pub mod CellsLemmas
 pub mod JudgeLemmas
 pub mod DigitLemmas
 pub mod OtherwiseLemmas
+pub mod StateNodeLemmas
 pub mod PlacedLemmas
 pub mod HearLemmas
 pub mod FirstFrameLemmas
 pub mod CompareLemmas
+pub mod LeftOutLemmas

@@ -42,78 +42,7 @@ use Rattle.fulljudge.proofs.RunLemmas.{states_named}
 use Rattle.fulljudge.proofs.DigitLemmas.{bit_is}
 use Rattle.fulljudge.proofs.OtherwiseLemmas.{get_below, IsRead, none_otherwise, otherwise_differs, same_word}
 use Rattle.fulljudge.proofs.ToldLemmas.{WordsFit}
-
--- ---- lists
-
-zip_get : {A B : Type 0} (P : A → B → Type 0) (xs : List A) (ys : List B) (i : ℕ) (x : A) → AllZip P xs ys → slice_get xs i ≡ Some x → (y : B) × (slice_get ys i ≡ Some y) × P x y
-zip_get P [] [] i x h e = absurd (none-some x e)
-zip_get P [] (y ∷ ys) i x h e = absurd h
-zip_get P (a ∷ xs) [] i x h e = absurd h
-zip_get P (a ∷ xs) (y ∷ ys) zero x h e = (y, refl, subst (λ (b : _). P b y) (same_Some a x e) h.0)
-zip_get P (a ∷ xs) (y ∷ ys) (suc i) x h e = zip_get P xs ys i x h.1 e
-
-get_front : {A : Type 0} (xs ys : List A) (i : ℕ) (x : A) → slice_get xs i ≡ Some x → slice_get (xs ++ ys) i ≡ Some x
-get_front [] ys i x e = absurd (none-some x e)
-get_front (a ∷ xs) ys zero x e = e
-get_front (a ∷ xs) ys (suc i) x e = get_front xs ys i x e
-
-get_behind : {A : Type 0} (xs ys : List A) (i : ℕ) → slice_get (xs ++ ys) (length xs + i) ≡ slice_get ys i
-get_behind [] ys i = ap (slice_get ys) (omega arith)
-get_behind (a ∷ xs) ys i =
-    let next : length (a ∷ xs) + i ≡ suc (length xs + i) = omega arith in
-    ap (slice_get (a ∷ (xs ++ ys))) next ∙ get_behind xs ys i
-
--- the id of a leaf stands where the leaf does
-id_at : (full : List FullLine) (q : ℕ → ℕ) (xs : List FullLine) (i : ℕ) (l : Leaf) → slice_get (map (leaf_of full) xs) i ≡ Some l → slice_get (map q (map (λ (x : FullLine). x.id) xs)) i ≡ Some (q l.id)
-id_at full q [] i l e = absurd (none-some l e)
-id_at full q (x ∷ xs) zero l e = ap (λ (m : Leaf). Some (q m.id)) (same_Some (leaf_of full x) l e)
-id_at full q (x ∷ xs) (suc i) l e = id_at full q xs i l e
-
-get_map : {A B : Type 0} (f : A → B) (xs : List A) (i : ℕ) (x : A) → slice_get xs i ≡ Some x → slice_get (map f xs) i ≡ Some (f x)
-get_map f [] i x e = absurd (none-some x e)
-get_map f (a ∷ xs) zero x e = ap (λ (y : _). Some (f y)) (same_Some a x e)
-get_map f (a ∷ xs) (suc i) x e = get_map f xs i x e
-
-pub from_map : {A B : Type 0} (f : A → B) (xs : List A) (i : ℕ) (y : B) → slice_get (map f xs) i ≡ Some y → (x : A) × (slice_get xs i ≡ Some x) × (f x ≡ y)
-from_map f [] i y e = absurd (none-some y e)
-from_map f (a ∷ xs) zero y e = (a, refl, same_Some (f a) y e)
-from_map f (a ∷ xs) (suc i) y e = from_map f xs i y e
-
--- the words of a value stand among those of all
-index_within : (sorts : List Sort) (i : ℕ) (s : Sort) → slice_get sorts i ≡ Some s → first_index sorts i + word_count s ≤ words_in sorts
-index_within [] i s e = absurd (none-some s e)
-index_within (t ∷ sorts) zero s e =
-    let count : length (word_widths t) ≡ word_count t = length-replicate (word_count t) (word_width t) in
-    omega (arith, count, ap word_count (same_Some t s e), length-append (word_widths t) (flat_map word_widths sorts))
-index_within (t ∷ sorts) (suc i) s e =
-    let count : length (word_widths t) ≡ word_count t = length-replicate (word_count t) (word_width t) in
-    omega (arith, count, index_within sorts i s e, length-append (word_widths t) (flat_map word_widths sorts))
-
--- ---- how many bits a leaf has
-
-sort_bits_of : (o : Option Sort) → unwrap_or (option_map sort_size o) 0 ≡ word_count (unwrap_or o (words 0)) * word_width (unwrap_or o (words 0))
-sort_bits_of None = refl
-sort_bits_of (Some (words n)) = omega arith
-sort_bits_of (Some (arrays k n)) = refl
-
-HasBits : List FullLine → Leaf → Type 0
-HasBits full l = width_of full l.id ≡ word_count l.sort * word_width l.sort
-
-leaf_bits : (full : List FullLine) (kind : Body → Bool) (xs : List FullLine) → AllByRecursion (λ (x : FullLine). find_line full x.id ≡ Some x) xs → AllByRecursion (HasBits full) (map (leaf_of full) (lines_of kind xs))
-unfolding HasBits
-leaf_bits full kind [] h = tt
-leaf_bits full kind (x ∷ xs) h = by (is_form kind x.says) (leaf_bits full kind xs h.1)
-  where
-    here : width_of full x.id ≡ word_count (leaf_of full x).sort * word_width (leaf_of full x).sort
-    here = ap (λ (o : Option FullLine). unwrap_or (option_map sort_size (option_and_then (λ (y : FullLine). sort_of full y.says) o)) 0) h.0 ∙ sort_bits_of (sort_of full x.says)
-
-    by : (b : Bool) → AllByRecursion (HasBits full) (map (leaf_of full) (lines_of kind xs)) → AllByRecursion (HasBits full) (map (leaf_of full) (cond b (x ∷ lines_of kind xs) (lines_of kind xs)))
-    by true rest = (here, rest)
-    by false rest = rest
-
-bits_at : (full : List FullLine) (i : ℕ) (l : Leaf) → AllByRecursion (λ (x : FullLine). find_line full x.id ≡ Some x) full → slice_get (leaves_of is_state full) i ≡ Some l → width_of full l.id ≡ word_count l.sort * word_width l.sort
-unfolding HasBits
-bits_at full i l found there = all_get (HasBits full) (leaves_of is_state full) i l (leaf_bits full is_state full found) there
+use Rattle.fulljudge.proofs.StateNodeLemmas.{StateAt, state_at, zip_get, get_front, get_behind, get_map, index_within}
 
 -- ---- the first frame
 
@@ -162,56 +91,20 @@ module _ (full : List FullLine) (p : Places) (wide : List Item) (layout : Layout
     abbrev sorts : List Sort
     sorts = map (λ (m : Leaf). m.sort) (leaves_of is_state full)
 
-    names : names_full_state full l.id ≡ true
-    names = all_get (λ (m : Leaf). names_full_state full m.id ≡ true) (leaves_of is_state full) i l (states_named full p wide h) there
+    pub at : StateAt full p wide layout celled w.leaves w.nodes f g i l
+    at = state_at full p wide layout celled h c model distinct_inputs distinct_states w.leaves w.nodes placed_words.state_nodes f begin begins state input g frame i l there
 
-    pub leaf_node : (k : ℕ) × (slice_get w.leaves i ≡ Some k) × IsWhole wide layout celled (p.leaf l.id) k
-    leaf_node = zip_get (IsWhole wide layout celled) (map p.leaf (full_ids is_state full)) w.leaves i (p.leaf l.id) placed_words.leaves (id_at full p.leaf (lines_of is_state full) i l there)
+    pub leaf_places : (places : List ℕ) × (slice_get w.places i ≡ Some places) × IsLaid celled narrow fit.layout at.leaf places
+    leaf_places = zip_get (IsLaid celled narrow fit.layout) (w.leaves ++ w.nodes) w.places i at.leaf placed_words.places (get_front w.leaves w.nodes i at.leaf at.is_leaf)
 
-    pub state_node : (k : ℕ) × (slice_get w.nodes i ≡ Some k) × IsWhole wide layout celled (p.node l.id) k
-    state_node = zip_get (IsWhole wide layout celled) (map p.node (full_ids is_state full)) w.nodes i (p.node l.id) placed_words.nodes (id_at full p.node (lines_of is_state full) i l there)
+    pub state_places : (places : List ℕ) × (slice_get w.places (length w.leaves + i) ≡ Some places) × IsLaid celled narrow fit.layout at.node places
+    state_places = zip_get (IsLaid celled narrow fit.layout) (w.leaves ++ w.nodes) w.places (length w.leaves + i) at.node placed_words.places (get_behind w.leaves w.nodes i ∙ at.is_node)
 
-    pub leaf_places : (places : List ℕ) × (slice_get w.places i ≡ Some places) × IsLaid celled narrow fit.layout leaf_node.0 places
-    leaf_places = zip_get (IsLaid celled narrow fit.layout) (w.leaves ++ w.nodes) w.places i leaf_node.0 placed_words.places (get_front w.leaves w.nodes i leaf_node.0 leaf_node.1)
+    pub own : IsRead (word_at narrow n) (bits_of narrow) n (fit.layout at.leaf) leaf_places.0 (joined celled layout g (p.leaf l.id))
+    own = read_of (p.leaf l.id) at.leaf leaf_places.0 at.leaf_whole leaf_places.2
 
-    pub state_places : (places : List ℕ) × (slice_get w.places (length w.leaves + i) ≡ Some places) × IsLaid celled narrow fit.layout state_node.0 places
-    state_places = zip_get (IsLaid celled narrow fit.layout) (w.leaves ++ w.nodes) w.places (length w.leaves + i) state_node.0 placed_words.places (get_behind w.leaves w.nodes i ∙ state_node.1)
-
-    pub own : IsRead (word_at narrow n) (bits_of narrow) n (fit.layout leaf_node.0) leaf_places.0 (joined celled layout g (p.leaf l.id))
-    own = read_of (p.leaf l.id) leaf_node.0 leaf_places.0 leaf_node.2 leaf_places.2
-
-    pub begun : IsRead (word_at narrow n) (bits_of narrow) n (fit.layout state_node.0) state_places.0 (read_by p (joined celled layout g) l.id)
-    begun = read_of (p.node l.id) state_node.0 state_places.0 state_node.2 state_places.2
-
-    place : StateIsWritten full p wide l.id
-    place = placed full p wide l.id h names
-
-    above : IsState wide (joined celled layout begin) × AllByRecursion (IsInput wide) (joined celled layout (given_words celled f) ∷ []) × IsTrace wide (joined celled layout begin) (joined celled layout (given_words celled f) ∷ []) (joined celled layout g ∷ [])
-        × (map (model_shows wide) (joined celled layout g ∷ []) ≡ map (model_shows celled) (g ∷ []))
-    above = trace_above wide celled layout c.fits begin (given_words celled f ∷ []) (g ∷ []) state (input, tt) (frame, tt)
-
-    size : width_of full l.id ≡ word_count l.sort * word_width l.sort
-    size = bits_at full i l (each_found full h.agrees) there
-
-    own_below : joined celled layout g (p.leaf l.id) < 2 ^ (word_count l.sort * word_width l.sort)
-    own_below =
-        let k : ℕ = leaf_node.0 in
-        let whole = leaf_node.2 in
-        let bits : bits_of celled k ≡ word_count l.sort * word_width l.sort = ap (λ (o : Option ℕ). unwrap_or o 0) whole.width ∙ place.bits ∙ size in
-        let below : g k < 2 ^ bits_of celled k = wide_words_fit celled begin (given_words celled f) g model state input frame k (ap is_some whole.width) in
-        subst (λ (x : ℕ). x < 2 ^ (word_count l.sort * word_width l.sort)) (whole.word begin (given_words celled f) g state input frame) (subst (λ (b : ℕ). g k < 2 ^ b) bits below)
-
-    begun_below : read_by p (joined celled layout g) l.id < 2 ^ (word_count l.sort * word_width l.sort)
-    begun_below =
-        subst (λ (b : ℕ). read_by p (joined celled layout g) l.id < 2 ^ b) size
-        (state_below full (read_by p (joined celled layout g)) l.id names (full_frame full p wide (joined celled layout begin) (joined celled layout (given_words celled f)) (joined celled layout g) h (record { state_fits = above.0; input_fits = above.1.0; frame = above.2.0 })))
-
-    -- where its leaf has no init line, that begins with what is told
-    own_told : init_value wide (p.leaf l.id) ≡ None → joined celled layout g (p.leaf l.id) ≡ told f.states l.sort (first_index sorts i) 0
-    own_told none =
-        state_has_word wide (joined celled layout begin) (joined celled layout (given_words celled f)) (joined celled layout g) (p.leaf l.id) above.2.0 place.state
-        ∙ at_first (λ i l. init_value wide (p.leaf l.id) ≡ None → state_word wide (joined celled layout begin) (joined celled layout (given_words celled f)) (p.leaf l.id) ≡ told f.states l.sort i 0) i (leaves_of is_state full) l
-        (open_given full p wide layout celled h c model distinct_inputs distinct_states f begin begins) there none
+    pub begun : IsRead (word_at narrow n) (bits_of narrow) n (fit.layout at.node) state_places.0 (read_by p (joined celled layout g) l.id)
+    begun = read_of (p.node l.id) at.node state_places.0 at.node_whole state_places.2
 
     module _ (flags : List Bool) (flag : Flag flags f.states) (many : length flags ≡ words_in sorts) (fit_words : WordsFit f.states l.sort (first_index sorts i)) where
       room : first_index sorts i + word_count l.sort < length flags + 1
@@ -227,29 +120,29 @@ module _ (full : List FullLine) (p : Places) (wide : List Item) (layout : Layout
                 sort = l.sort;
                 leaf = leaf_places.0;
                 node = state_places.0;
-                within = get_below w.leaves i leaf_node.0 leaf_node.1;
+                within = get_below w.leaves i at.leaf at.is_leaf;
                 is_sort = get_map (λ (m : Leaf). m.sort) (leaves_of is_state full) i l there;
                 is_leaf = leaf_places.1;
                 is_node = state_places.1;
                 otherwise = o;
               }
 
-          other : (leaf_node.0 ≡ state_node.0 → ⊥) → told f.states l.sort (first_index sorts i) (read_by p (joined celled layout g) l.id) ≡ read_by p (joined celled layout g) l.id
+          other : (at.leaf ≡ at.node → ⊥) → told f.states l.sort (first_index sorts i) (read_by p (joined celled layout g) l.id) ≡ read_by p (joined celled layout g) l.id
           other apart =
-              none_otherwise (word_at narrow n) (bits_of narrow) n (fit.layout leaf_node.0) (fit.layout state_node.0) leaf_places.0 state_places.0 (joined celled layout g (p.leaf l.id)) (read_by p (joined celled layout g) l.id) own begun f.states flags l.sort
-              (first_index sorts i) flag room fit_words (own_told none) own_below begun_below
-              (λ o. found i (λ e. apart (same_Some leaf_node.0 state_node.0 (sym leaf_node.1 ∙ e ∙ state_node.1))) (differs o))
+              none_otherwise (word_at narrow n) (bits_of narrow) n (fit.layout at.leaf) (fit.layout at.node) leaf_places.0 state_places.0 (joined celled layout g (p.leaf l.id)) (read_by p (joined celled layout g) l.id) own begun f.states flags l.sort
+              (first_index sorts i) flag room fit_words (at.own_told none) at.own_below at.begun_below
+              (λ o. found i (λ e. apart (same_Some at.leaf at.node (sym at.is_leaf ∙ e ∙ at.is_node))) (differs o))
 
-          alike : leaf_node.0 ≡ state_node.0 → told f.states l.sort (first_index sorts i) (read_by p (joined celled layout g) l.id) ≡ read_by p (joined celled layout g) l.id
+          alike : at.leaf ≡ at.node → told f.states l.sort (first_index sorts i) (read_by p (joined celled layout g) l.id) ≡ read_by p (joined celled layout g) l.id
           alike e =
-              same_word (word_at narrow n) (bits_of narrow) n (fit.layout leaf_node.0) (fit.layout state_node.0) leaf_places.0 state_places.0 (joined celled layout g (p.leaf l.id)) (read_by p (joined celled layout g) l.id) own begun f.states flags l.sort
-              (first_index sorts i) flag room fit_words (own_told none) own_below begun_below
-              (sym (leaf_node.2.word begin (given_words celled f) g state input frame) ∙ ap g e ∙ state_node.2.word begin (given_words celled f) g state input frame)
+              same_word (word_at narrow n) (bits_of narrow) n (fit.layout at.leaf) (fit.layout at.node) leaf_places.0 state_places.0 (joined celled layout g (p.leaf l.id)) (read_by p (joined celled layout g) l.id) own begun f.states flags l.sort
+              (first_index sorts i) flag room fit_words (at.own_told none) at.own_below at.begun_below
+              (sym (at.leaf_whole.word begin (given_words celled f) g state input frame) ∙ ap g e ∙ at.node_whole.word begin (given_words celled f) g state input frame)
 
           by : (a b : Option ℕ) → slice_get w.leaves i ≡ a → slice_get w.nodes i ≡ b → told f.states l.sort (first_index sorts i) (read_by p (joined celled layout g) l.id) ≡ read_by p (joined celled layout g) l.id
           by a b is_a is_b =
-              elim (cases_Bool (leaf_node.0 == state_node.0)) [
-                | inl e ↦ alike (eqb-true leaf_node.0 state_node.0 e)
+              elim (cases_Bool (at.leaf == at.node)) [
+                | inl e ↦ alike (eqb-true at.leaf at.node e)
                 | inr e ↦ other (λ same. true≢false (sym (eq-eqb _ _ same) ∙ e))
               ]
 
@@ -264,9 +157,9 @@ module _ (full : List FullLine) (p : Places) (wide : List Item) (layout : Layout
               let c : ℕ = o.cell in
               let b : ℕ = o.differ.place in
               o.differ.differs
-              (bit_is (word_at narrow n) (bits_of narrow) n (fit.layout leaf_node.0) leaf_places.0 (c * word_width l.sort + b) own.at own.cut own.fit
+              (bit_is (word_at narrow n) (bits_of narrow) n (fit.layout at.leaf) leaf_places.0 (c * word_width l.sort + b) own.at own.cut own.fit
               ∙ ap (λ (x : ℕ). bit x (c * word_width l.sort + b) == 1) (sym own.is ∙ same_words ∙ begun.is)
-              ∙ sym (bit_is (word_at narrow n) (bits_of narrow) n (fit.layout state_node.0) state_places.0 (c * word_width l.sort + b) begun.at begun.cut begun.fit))
+              ∙ sym (bit_is (word_at narrow n) (bits_of narrow) n (fit.layout at.node) state_places.0 (c * word_width l.sort + b) begun.at begun.cut begun.fit))
 
           written : (a : Operand) → init_of full l.id ≡ Some a → InitIsWritten full p wide l.id a → DiffersAt full f.states (read_by p (joined celled layout g)) i
           written a e (inl same) = absurd (apart same.same)
@@ -277,10 +170,10 @@ module _ (full : List FullLine) (p : Places) (wide : List Item) (layout : Layout
                 has_init = ap is_some e;
                 other = false_from_ne_true (told f.states l.sort (first_index sorts i) (read_by p (joined celled layout g) l.id) == read_by p (joined celled layout g) l.id)
                     (λ yes.
-                    otherwise_differs (word_at narrow n) (bits_of narrow) n (fit.layout leaf_node.0) (fit.layout state_node.0) leaf_places.0 state_places.0 (joined celled layout g (p.leaf l.id)) (read_by p (joined celled layout g) l.id) own begun f.states flags l.sort
-                    (first_index sorts i) flag room fit_words (own_told choice.begins_open) own_below begun_below o (eqb-true _ _ yes));
+                    otherwise_differs (word_at narrow n) (bits_of narrow) n (fit.layout at.leaf) (fit.layout at.node) leaf_places.0 state_places.0 (joined celled layout g (p.leaf l.id)) (read_by p (joined celled layout g) l.id) own begun f.states flags l.sort
+                    (first_index sorts i) flag room fit_words (at.own_told choice.begins_open) at.own_below at.begun_below o (eqb-true _ _ yes));
               }
 
           by : (a : Option Operand) → init_of full l.id ≡ a → DiffersAt full f.states (read_by p (joined celled layout g)) i
           by (Some a) e = written a e (init_said (InitIsWritten full p wide) full l.id a h.inits e)
-          by None e = absurd (apart (place.no_init e).0)
+          by None e = absurd (apart (at.place.no_init e).0)

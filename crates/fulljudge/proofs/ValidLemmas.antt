@@ -101,16 +101,18 @@ width_at before rest count n c h =
     let within : c < length (replicate count n) = subst (λ (m : ℕ). c < m) (sym (length-replicate count n)) h in
     get_or-append-add before (replicate count n ++ rest) c 0 ∙ get_or_append_left (replicate count n) rest 0 c within ∙ get_or-replicate count c n 0 h
 
-pub words_fit : (list : List Assignment) (widths before : List ℕ) (leaves : List Leaf) (i : ℕ) → widths ≡ before ++ flat_map (λ (l : Leaf). word_widths l.sort) leaves → length before ≡ i → AreOf widths list
+pub words_fit : (list : List Assignment) (widths before behind : List ℕ) (leaves : List Leaf) (i : ℕ) → widths ≡ before ++ (flat_map (λ (l : Leaf). word_widths l.sort) leaves ++ behind) → length before ≡ i → AreOf widths list
     → ByIndex (λ i l. (c : ℕ) → c < word_count l.sort → IfSome (given (pairs_of list) (i + c)) (λ v. v < 2 ^ word_width l.sort)) i leaves
-words_fit list widths before [] i e at h = tt
-words_fit list widths before (l ∷ leaves) i e at h =
-    let rest : List ℕ = flat_map (λ (m : Leaf). word_widths m.sort) leaves in (
+words_fit list widths before behind [] i e at h = tt
+words_fit list widths before behind (l ∷ leaves) i e at h =
+    let more : List ℕ = flat_map (λ (m : Leaf). word_widths m.sort) leaves in
+    let rest : List ℕ = more ++ behind in
+    let here : widths ≡ before ++ (word_widths l.sort ++ rest) = e ∙ ap (λ (ws : List ℕ). before ++ ws) (append_assoc (word_widths l.sort) more behind) in (
       (λ c within.
           subst (λ (n : ℕ). IfSome (given (pairs_of list) (i + c)) (λ v. v < 2 ^ n))
-          (ap (λ (k : ℕ). slice_index widths k) (ap (λ (n : ℕ). n + c) (sym at)) ∙ ap (λ (ws : List ℕ). slice_index ws (length before + c)) e ∙ width_at before rest (word_count l.sort) (word_width l.sort) c within)
+          (ap (λ (k : ℕ). slice_index widths k) (ap (λ (n : ℕ). n + c) (sym at)) ∙ ap (λ (ws : List ℕ). slice_index ws (length before + c)) here ∙ width_at before rest (word_count l.sort) (word_width l.sort) c within)
           (given_below widths list (i + c) (below widths list h))),
-      words_fit list widths (before ++ word_widths l.sort) leaves (i + word_count l.sort) (e ∙ sym (append_assoc before (word_widths l.sort) rest))
+      words_fit list widths (before ++ word_widths l.sort) behind leaves (i + word_count l.sort) (here ∙ sym (append_assoc before (word_widths l.sort) rest))
           (length-append before (word_widths l.sort) ∙ omega (arith, at, length-replicate (word_count l.sort) (word_width l.sort))) h,
     )
 

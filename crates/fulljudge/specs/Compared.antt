@@ -1,5 +1,5 @@
 -- How what is told of the first words of states is compared with what they are.
-use Rattle.std.specs.Prelude.{◌≡◌, ℕ, zero, suc, ◌+◌, ◌*◌, ◌/◌, ◌%◌, ◌<◌, ◌==◌, Bool, true, false, List, [], ◌∷◌, Option, Some, None, is_some, length, slice_get, unwrap_or, option_and_then}
+use Rattle.std.specs.Prelude.{◌≡◌, ℕ, zero, suc, ◌+◌, ◌*◌, ◌/◌, ◌%◌, ◌<◌, ◌==◌, Bool, true, false, not, List, [], ◌∷◌, Option, Some, None, is_some, length, slice_get, unwrap_or, option_and_then}
 use Rattle.base.specs.Word.{bit}
 use Rattle.btor2.specs.declared.item.Item.{Item}
 use Rattle.btor2.specs.Trace.{Frame, IsTrace}
@@ -41,6 +41,10 @@ pub record StateWords : Type 0 where
   pub places : List (List ℕ)
 
 -- ---- states
+
+-- whether the state with an index has another node than its leaf's
+abbrev pub has_other_node : List ℕ → List ℕ → ℕ → Bool
+has_other_node leaves nodes i = not (unwrap_or (slice_get leaves i) 0 == unwrap_or (slice_get nodes i) 0)
 
 -- the flag of the word with an index, and false behind the last
 abbrev pub flag_at : List Bool → ℕ → Bool

@@ -4,7 +4,7 @@ use Rattle.std.specs.List.{AllZip}
 use Rattle.btor2.specs.declared.item.Item.{Item}
 use Rattle.btor2.specs.Items.{init_word, is_state}
 use Rattle.fit.specs.Fitting.{Layout}
-use Rattle.celled.specs.Whole.{IsWhole}
+use Rattle.celled.specs.Whole.{HasStateNodes}
 use Rattle.fitting.specs.Laid.{IsLaid}
 use Rattle.fitting.specs.Models.{IsFit}
 use Rattle.full.specs.Lines.{FullLine, Sort, full_ids, init_of}
@@ -33,8 +33,7 @@ HasNoFirst full celled = length (shape_of celled).states ≡ words_in (full_shap
 -- The nodes with the words of the states' leaves, and those with the states' words, are nodes of the list in which each word has a leaf, and their pieces stand at these
 -- places of the model that this is fitted into.
 pub record HasStateWords (full : List FullLine) (p : Places) (wide : List Item) (layout : Layout) (celled narrow : List Item) (fit : IsFit celled narrow) (w : StateWords) : Type 0 where
-  pub leaves : AllZip (IsWhole wide layout celled) (map p.leaf (full_ids is_state full)) w.leaves
-  pub nodes : AllZip (IsWhole wide layout celled) (map p.node (full_ids is_state full)) w.nodes
+  pub state_nodes : HasStateNodes full p wide layout celled w.leaves w.nodes
   pub places : AllZip (IsLaid celled narrow fit.layout) (w.leaves ++ w.nodes) w.places
 
 -- These are the sorts of a model's states and of its inputs, and where the words of the states stand. The model is written out as a list, which is fitted into one in

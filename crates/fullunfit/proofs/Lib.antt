@@ -3,4 +3,5 @@ pub mod NamingLemmas
 pub mod TitleLemmas
 pub mod ValueLineLemmas
 pub mod TextLemmas
+pub mod LessLemmas
 pub mod KeptLemmas

@@ -1,5 +1,5 @@
 -- The text of a witness that tells values, as the text of the words by which it tells them.
-use Rattle.std.proofs.Common.{◌≡◌, ℕ, suc, ◌+◌, ◌<◌, ◌≤◌, ◌^◌, ◌==◌, Bool, true, false, cond, List, [], ◌∷◌, ◌++◌, Option, Some, None, IfSome, codes, decimal, length, map, refl, sym, ap, ap₂, subst, ◌∙◌, append_assoc, append-nil, arith}
+use Rattle.std.proofs.Common.{◌≡◌, ℕ, suc, ◌+◌, ◌<◌, ◌≤◌, ◌^◌, ◌==◌, Bool, true, false, cond, List, [], ◌∷◌, ◌++◌, Option, Some, None, IfSome, codes, decimal, length, map, option_map, slice_index, refl, sym, ap, ap₂, subst, ◌∙◌, append_assoc, append-nil, arith}
 use Rattle.std.specs.List.{AllByRecursion}
 use Rattle.std.proofs.lemmas.Bool.{or_parts}
 use Rattle.std.proofs.lemmas.List.{length-append}
@@ -8,7 +8,7 @@ use Rattle.base.specs.Lines.{IsLine, text_of_lines}
 use Rattle.base.proofs.DecimalLemmas.{decimal_without}
 use Rattle.base.proofs.LineLemmas.{EachLine, lines_of_text, unfinished_of_text}
 use Rattle.full.specs.Lines.{Sort}
-use Rattle.witness.specs.Texts.{Shape, Assignment, Parts, Witness, IsAssignment, IsPart, IsFreePart, AreParts, AreFrames, IsWitness, assignment_line, claims_line, states_lines, frame_lines, witness_lines, most_lines}
+use Rattle.witness.specs.Texts.{Shape, Assignment, Parts, Witness, IsAssignment, IsPart, IsFreePart, AreParts, AreFrames, IsWitness, assignment_line, binary, symbol_part, claims_line, states_lines, frame_lines, witness_lines, most_lines}
 use Rattle.witness.specs.Admits.{begins_part}
 use Rattle.witness.proofs.AssignmentLemmas.{claims_line_is_line}
 use Rattle.witness.proofs.ReadLemmas.{frames_have_lines}
@@ -16,13 +16,14 @@ use Rattle.spread.specs.declared.spreader.Part.{Part}
 use Rattle.spread.specs.declared.spreader.Part.TheVariants as part
 use Rattle.spread.specs.Made.{lines_made}
 use Rattle.spread.specs.Stands.{part_behind}
-use Rattle.unfit.specs.Joined.{Fronts, Lined, listed}
-use Rattle.unfit.specs.Unfitted.{line_with, states_lines_with, frame_lines_with}
+use Rattle.unfit.specs.Joined.{Fronts, Lined, is_told}
+use Rattle.unfit.specs.Unfitted.{line_with, told_lines, states_lines_with, frame_lines_with}
 use Rattle.fulljudge.specs.Shapes.{FullShape}
 use Rattle.fulljudge.specs.Kept.{words_in}
 use Rattle.fulljudge.specs.Lines.{line_in, line_in_part, word_line, words_text}
-use Rattle.fullunfit.specs.Titles.{word_fronts}
-use Rattle.fullunfit.proofs.ValueLineLemmas.{line_is_of_word, line_begins_none, line_with_is_line}
+use Rattle.fullunfit.specs.Unfitted.{told_part, told_frames, told_witness}
+use Rattle.fullunfit.proofs.TitleLemmas.{fronts_of, told_front}
+use Rattle.fullunfit.proofs.ValueLineLemmas.{told_line, line_is_of_word, line_begins_none, told_line_is_line}
 
 -- ---- lines that become others
 
@@ -59,18 +60,33 @@ module _ (full : FullShape) where
   }
 
   -- the lines of the words of a part
-  module _ (p : Part) (sorts : List Sort) (widths : List ℕ) (makes : (line : List ℕ) → make p line ≡ line_in sorts line) (many : length widths ≡ words_in sorts) (few : words_in sorts < 2 ^ 64) where
+  module _ (p : Part) (sorts : List Sort) (widths : List ℕ) (makes : (line : List ℕ) → make p line ≡ line_in sorts line) (many : length widths < 2 ^ 64) (few : words_in sorts < 2 ^ 64) (leaves nodes : List ℕ) (f : ℕ) where
+    abbrev fronts : Fronts
+    fronts = fronts_of sorts leaves nodes
+
     abbrev line : Assignment → List ℕ
-    line = line_with (listed (word_fronts sorts)) widths
+    line = line_with fronts f widths
 
-    made_line : (a : Assignment) → IsAssignment widths a → make p (line a) ≡ assignment_line widths a
-    made_line a is = makes (line a) ∙ ap (λ (b : Bool). cond b (line a) (word_line sorts (line a))) (line_begins_none sorts widths many few a is) ∙ line_is_of_word sorts widths many few a is
+    abbrev kept : List Assignment → List Assignment
+    kept = told_part fronts f
 
-    list_goes : (list : List Assignment) → AllByRecursion (IsAssignment widths) list → Goes p (map line list) (map (assignment_line widths) list) p
+    one_told : (a : Assignment) → IsAssignment widths a → is_told fronts f a.index ≡ true → Goes p (line a ∷ []) (assignment_line widths a ∷ []) p
+    one_told a is told =
+        let front = told_front sorts leaves nodes f a.index told in
+        let none = line_begins_none sorts widths many few a is front.0 in
+        subst (λ (l : List ℕ). Goes p (l ∷ []) (assignment_line widths a ∷ []) p) (ap (λ (start : List ℕ). (start ++ 32 ∷ binary (slice_index widths a.index) a.word) ++ symbol_part a.symbol) (sym front.1))
+        (one_goes p p (told_line sorts widths a) (assignment_line widths a)
+        (makes (told_line sorts widths a) ∙ ap (λ (b : Bool). cond b (told_line sorts widths a) (word_line sorts (told_line sorts widths a))) none ∙ line_is_of_word sorts widths many few a is front.0) (stays_open p (told_line sorts widths a) none)
+        (told_line_is_line sorts widths many few a is front.0))
+
+    list_goes : (list : List Assignment) → AllByRecursion (IsAssignment widths) list → Goes p (told_lines fronts f widths list) (map (assignment_line widths) (kept list)) p
     list_goes [] h = none_goes p
-    list_goes (a ∷ list) h =
-        both_go p p p (line a ∷ []) (map line list) (assignment_line widths a ∷ []) (map (assignment_line widths) list)
-        (one_goes p p (line a) (assignment_line widths a) (made_line a h.0) (stays_open p (line a) (line_begins_none sorts widths many few a h.0)) (line_with_is_line sorts widths many few a h.0)) (list_goes list h.1)
+    list_goes (a ∷ list) h = by (is_told fronts f a.index) refl (list_goes list h.1)
+      where
+        by : (b : Bool) → is_told fronts f a.index ≡ b → Goes p (told_lines fronts f widths list) (map (assignment_line widths) (kept list)) p
+            → Goes p (map line (cond b (a ∷ kept list) (kept list))) (map (assignment_line widths) (cond b (a ∷ kept list) (kept list))) p
+        by true told rest = both_go p p p (line a ∷ []) (told_lines fronts f widths list) (assignment_line widths a ∷ []) (map (assignment_line widths) (kept list)) (one_told a h.0 told) rest
+        by false told rest = rest
 
   -- a line that opens or ends a part stays
   mark_stays : (p : Part) (b : ℕ) (bs : List ℕ) → begins_part (b ∷ bs) ≡ true → make p (b ∷ bs) ≡ b ∷ bs
@@ -80,39 +96,41 @@ module _ (full : FullShape) where
 
   -- ---- frames
 
-  module _ (l : Lined) (states : l.states ≡ listed (word_fronts full.states)) (inputs : l.inputs ≡ listed (word_fronts full.inputs)) (many_states : length l.wide.shape.states ≡ words_in full.states) (many_inputs : length l.wide.shape.inputs ≡ words_in full.inputs)
+  module _ (l : Lined) (leaves nodes : List ℕ) (states : l.states ≡ fronts_of full.states leaves nodes) (inputs : l.inputs ≡ fronts_of full.inputs [] []) (many_states : length l.wide.shape.states < 2 ^ 64) (many_inputs : length l.wide.shape.inputs < 2 ^ 64)
       (few_states : words_in full.states < 2 ^ 64) (few_inputs : words_in full.inputs < 2 ^ 64) where
     abbrev shape : Shape
     shape = l.wide.shape
 
-    states_go : (p : Part) (k : ℕ) (o : Option (List Assignment)) → k < 2 ^ 64 → IfSome o (IsPart shape.states) → (q : Part) × Goes p (states_lines_with l.states shape.states k o) (states_lines shape.states k o) q
+    states_go : (p : Part) (k : ℕ) (o : Option (List Assignment)) → k < 2 ^ 64 → IfSome o (IsPart shape.states) → (q : Part) × Goes p (states_lines_with l.states shape.states k o) (states_lines shape.states k (option_map (told_part l.states k) o)) q
     states_go p k None lt is = (p, none_goes p)
     states_go p k (Some list) lt is = (
       part.States,
-      both_go p part.States part.States ((35 ∷ decimal k) ∷ []) (map (line_with l.states shape.states) list) ((35 ∷ decimal k) ∷ []) (map (assignment_line shape.states) list)
+      both_go p part.States part.States ((35 ∷ decimal k) ∷ []) (told_lines l.states k shape.states list) ((35 ∷ decimal k) ∷ []) (map (assignment_line shape.states) (told_part l.states k list))
           (one_goes p part.States (35 ∷ decimal k) (35 ∷ decimal k) (mark_stays p 35 (decimal k) refl) refl (decimal_without 10 k (omega arith) lt))
-          (subst (λ (f : Fronts). Goes part.States (map (line_with f shape.states) list) (map (assignment_line shape.states) list) part.States) (sym states)
-          (list_goes part.States full.states shape.states (λ line. refl) many_states few_states list (recursion_from_All (IsAssignment shape.states) list is.each))),
+          (subst (λ (f : Fronts). Goes part.States (told_lines f k shape.states list) (map (assignment_line shape.states) (told_part f k list)) part.States) (sym states)
+          (list_goes part.States full.states shape.states (λ line. refl) many_states few_states leaves nodes k list (recursion_from_All (IsAssignment shape.states) list is.each))),
     )
 
-    inputs_go : (list : List Assignment) → IsPart shape.inputs list → Goes part.Inputs (map (line_with l.inputs shape.inputs) list) (map (assignment_line shape.inputs) list) part.Inputs
-    inputs_go list is =
-        subst (λ (f : Fronts). Goes part.Inputs (map (line_with f shape.inputs) list) (map (assignment_line shape.inputs) list) part.Inputs) (sym inputs)
-        (list_goes part.Inputs full.inputs shape.inputs (λ line. refl) many_inputs few_inputs list (recursion_from_All (IsAssignment shape.inputs) list is.each))
+    inputs_go : (k : ℕ) (list : List Assignment) → IsPart shape.inputs list → Goes part.Inputs (told_lines l.inputs k shape.inputs list) (map (assignment_line shape.inputs) (told_part l.inputs k list)) part.Inputs
+    inputs_go k list is =
+        subst (λ (f : Fronts). Goes part.Inputs (told_lines f k shape.inputs list) (map (assignment_line shape.inputs) (told_part f k list)) part.Inputs) (sym inputs)
+        (list_goes part.Inputs full.inputs shape.inputs (λ line. refl) many_inputs few_inputs [] [] k list (recursion_from_All (IsAssignment shape.inputs) list is.each))
 
-    frames_go : (p : Part) (k : ℕ) (frames : List Parts) → k + length frames ≤ 2 ^ 62 → AllByRecursion (AreParts shape (IsPart shape.states)) frames → (q : Part) × Goes p (frame_lines_with l k frames) (frame_lines shape k frames) q
+    frames_go : (p : Part) (k : ℕ) (frames : List Parts) → k + length frames ≤ 2 ^ 62 → AllByRecursion (AreParts shape (IsPart shape.states)) frames → (q : Part) × Goes p (frame_lines_with l k frames) (frame_lines shape k (told_frames l k frames)) q
     frames_go p k [] few all = (p, none_goes p)
     frames_go p k (parts ∷ more) few all =
         let lt : k < 2 ^ 64 = omega (arith, few) in
         let first = states_go p k parts.states lt all.0.states in
         let rest = frames_go part.Inputs (suc k) more (omega (arith, few)) all.1 in
-        let here : List (List ℕ) = map (line_with l.inputs shape.inputs) parts.inputs in
-        let of_words : List (List ℕ) = map (assignment_line shape.inputs) parts.inputs in (
+        let here : List (List ℕ) = told_lines l.inputs k shape.inputs parts.inputs in
+        let of_words : List (List ℕ) = map (assignment_line shape.inputs) (told_part l.inputs k parts.inputs) in
+        let of_states : Option (List Assignment) = option_map (told_part l.states k) parts.states in
+        let of_frames : List Parts = told_frames l (suc k) more in (
           rest.0,
-          both_go p first.0 rest.0 (states_lines_with l.states shape.states k parts.states) ((64 ∷ decimal k) ∷ (here ++ frame_lines_with l (suc k) more)) (states_lines shape.states k parts.states) ((64 ∷ decimal k) ∷ (of_words ++ frame_lines shape (suc k) more)) first.1
-              (both_go first.0 part.Inputs rest.0 ((64 ∷ decimal k) ∷ []) (here ++ frame_lines_with l (suc k) more) ((64 ∷ decimal k) ∷ []) (of_words ++ frame_lines shape (suc k) more)
+          both_go p first.0 rest.0 (states_lines_with l.states shape.states k parts.states) ((64 ∷ decimal k) ∷ (here ++ frame_lines_with l (suc k) more)) (states_lines shape.states k of_states) ((64 ∷ decimal k) ∷ (of_words ++ frame_lines shape (suc k) of_frames)) first.1
+              (both_go first.0 part.Inputs rest.0 ((64 ∷ decimal k) ∷ []) (here ++ frame_lines_with l (suc k) more) ((64 ∷ decimal k) ∷ []) (of_words ++ frame_lines shape (suc k) of_frames)
               (one_goes first.0 part.Inputs (64 ∷ decimal k) (64 ∷ decimal k) (mark_stays first.0 64 (decimal k) refl) refl (decimal_without 10 k (omega arith) lt))
-              (both_go part.Inputs part.Inputs rest.0 here (frame_lines_with l (suc k) more) of_words (frame_lines shape (suc k) more) (inputs_go parts.inputs all.0.inputs) rest.1)),
+              (both_go part.Inputs part.Inputs rest.0 here (frame_lines_with l (suc k) more) of_words (frame_lines shape (suc k) of_frames) (inputs_go k parts.inputs all.0.inputs) rest.1)),
         )
 
     -- ---- a whole witness
@@ -143,24 +161,24 @@ module _ (full : FullShape) where
       few_frames =
           let frames : List (List ℕ) = frame_lines shape 0 v.frames in omega (arith, few, length-append frames (codes "." ∷ []), frames_have_lines shape 0 v.frames)
 
-      all_go : (q : Part) × Goes part.Outside (value_lines v) (witness_lines shape [] v) q
+      all_go : (q : Part) × Goes part.Outside (value_lines v) (witness_lines shape [] (told_witness l v)) q
       all_go =
           let frames = frames_go part.Outside 0 v.frames few_frames (all_parts v.frames valid.frames) in
           let behind : List (List ℕ) = frame_lines_with l 0 v.frames ++ codes "." ∷ [] in
-          let of_words : List (List ℕ) = frame_lines shape 0 v.frames ++ codes "." ∷ [] in (
+          let of_words : List (List ℕ) = frame_lines shape 0 (told_frames l 0 v.frames) ++ codes "." ∷ [] in (
             part.Outside,
             both_go part.Outside part.Outside part.Outside (codes "sat" ∷ []) (claims_line v.claims ∷ behind) (codes "sat" ∷ []) (claims_line v.claims ∷ of_words) (one_goes part.Outside part.Outside (codes "sat") (codes "sat") refl refl refl)
                 (both_go part.Outside part.Outside part.Outside (claims_line v.claims ∷ []) behind (claims_line v.claims ∷ []) of_words
                 (one_goes part.Outside part.Outside (claims_line v.claims) (claims_line v.claims) refl (claims_stay v.claims) (claims_line_is_line shape.bads v.claims bads (recursion_from_All (λ i. i < shape.bads) v.claims valid.claims)))
-                (both_go part.Outside frames.0 part.Outside (frame_lines_with l 0 v.frames) (codes "." ∷ []) (frame_lines shape 0 v.frames) (codes "." ∷ []) frames.1
+                (both_go part.Outside frames.0 part.Outside (frame_lines_with l 0 v.frames) (codes "." ∷ []) (frame_lines shape 0 (told_frames l 0 v.frames)) (codes "." ∷ []) frames.1
                 (one_goes frames.0 part.Outside (codes ".") (codes ".") (mark_stays frames.0 46 [] refl) refl refl))),
           )
 
       -- the text of words of the text of values is that of the words
-      pub text_goes : words_text full (text_of_lines (value_lines v)) ≡ text_of_lines (witness_lines shape [] v)
+      pub text_goes : words_text full (text_of_lines (value_lines v)) ≡ text_of_lines (witness_lines shape [] (told_witness l v))
       text_goes =
           let goes = all_go.1 in
           let lines : List (List ℕ) = value_lines v in
           ap₂ (λ (ls : List (List ℕ)) (behind : List ℕ). text_of_lines (lines_made make part.Outside ls) ++ behind) (lines_of_text lines goes.each) (unfinished_of_text lines)
           ∙ append-nil (text_of_lines (lines_made make part.Outside lines))
-          ∙ ap text_of_lines (ap (lines_made make part.Outside) (sym (append-nil lines)) ∙ goes.become [] ∙ append-nil (witness_lines shape [] v))
+          ∙ ap text_of_lines (ap (lines_made make part.Outside) (sym (append-nil lines)) ∙ goes.become [] ∙ append-nil (witness_lines shape [] (told_witness l v)))

@@ -17,17 +17,15 @@ use Rattle.witness.specs.Admits.{begins_part, cut_at_space, is_bit}
 use Rattle.witness.proofs.AssignmentLemmas.{assignment_line_is_line}
 use Rattle.witness.proofs.PieceLemmas.{cut_at_space-parts, binary_digits}
 use Rattle.spread.proofs.AssignedLemmas.{digits_begin_none}
-use Rattle.unfit.specs.Joined.{listed, front_at}
-use Rattle.unfit.specs.Unfitted.{line_with}
 use Rattle.unfit.proofs.LineLemmas.{word_of_binary}
 use Rattle.fulljudge.specs.Shapes.{word_count, first_index}
 use Rattle.fulljudge.specs.Kept.{words_in}
 use Rattle.fulljudge.specs.Lines.{digits_number, address_of, indexed, value_line, word_line}
 use Rattle.fulljudge.proofs.AddressLemmas.{last_of}
 use Rattle.fulljudge.proofs.WordLineLemmas.{by_number}
-use Rattle.fullunfit.specs.Titles.{value_front, word_fronts}
+use Rattle.fullunfit.specs.Titles.{value_front, word_front}
 use Rattle.fulljudge.proofs.OwnerLemmas.{Stands, stands, some_words}
-use Rattle.fullunfit.proofs.TitleLemmas.{front_is, front_stands}
+use Rattle.fullunfit.proofs.TitleLemmas.{front_stands}
 
 -- ---- an address
 
@@ -89,10 +87,11 @@ module _ (sorts : List Sort) (i k first : ℕ) (rest : List ℕ) (small : i < 2 
 
 -- ---- the line of a word of a part
 
-module _ (sorts : List Sort) (widths : List ℕ) (many : length widths ≡ words_in sorts) (few : words_in sorts < 2 ^ 64) (a : Assignment) (is : IsAssignment widths a) where
-  within : a.index < words_in sorts
-  within = let inside = is.index in omega (arith, inside, many)
+-- with the front of the word
+abbrev pub told_line : List Sort → List ℕ → Assignment → List ℕ
+told_line sorts widths a = word_front sorts a.index ++ 32 ∷ binary (slice_index widths a.index) a.word ++ symbol_part a.symbol
 
+module _ (sorts : List Sort) (widths : List ℕ) (many : length widths < 2 ^ 64) (few : words_in sorts < 2 ^ 64) (a : Assignment) (is : IsAssignment widths a) (within : a.index < words_in sorts) where
   at : Stands sorts a.index
   at = stands sorts a.index within
 
@@ -100,10 +99,9 @@ module _ (sorts : List Sort) (widths : List ℕ) (many : length widths ≡ words
   rest = binary (slice_index widths a.index) a.word ++ symbol_part a.symbol
 
   -- its bytes
-  spelled : line_with (listed (word_fronts sorts)) widths a ≡ value_front at.sort at.place (a.index - first_index sorts at.place) ++ 32 ∷ rest
+  spelled : told_line sorts widths a ≡ value_front at.sort at.place (a.index - first_index sorts at.place) ++ 32 ∷ rest
   spelled =
-      append_assoc (front_at (listed (word_fronts sorts)) a.index) (32 ∷ binary (slice_index widths a.index) a.word) (symbol_part a.symbol)
-      ∙ ap (λ (front : List ℕ). front ++ 32 ∷ rest) (front_is sorts a.index within ∙ front_stands sorts a.index at)
+      append_assoc (word_front sorts a.index) (32 ∷ binary (slice_index widths a.index) a.word) (symbol_part a.symbol) ∙ ap (λ (front : List ℕ). front ++ 32 ∷ rest) (front_stands sorts a.index at)
 
   assigned : assignment_line widths a ≡ decimal a.index ++ 32 ∷ rest
   assigned = append_assoc (decimal a.index) (32 ∷ binary (slice_index widths a.index) a.word) (symbol_part a.symbol)
@@ -111,17 +109,17 @@ module _ (sorts : List Sort) (widths : List ℕ) (many : length widths ≡ words
   place_small : at.place < 2 ^ 64
   place_small = let there = at.there in omega (arith, slice_get_within sorts at.place at.sort there, some_words sorts, few)
 
-  pub line_is_of_word : word_line sorts (line_with (listed (word_fronts sorts)) widths a) ≡ assignment_line widths a
+  pub line_is_of_word : word_line sorts (told_line sorts widths a) ≡ assignment_line widths a
   line_is_of_word = ap (word_line sorts) spelled ∙ value_line_is sorts at.place a.index (first_index sorts at.place) rest place_small refl at.from at.sort at.there at.below ∙ sym assigned
 
-  pub line_begins_none : begins_part (line_with (listed (word_fronts sorts)) widths a) ≡ false
+  pub line_begins_none : begins_part (told_line sorts widths a) ≡ false
   line_begins_none =
       ap begins_part (spelled ∙ front_first at.sort at.place (a.index - first_index sorts at.place) rest)
       ∙ digits_begin_none (decimal at.place) (32 ∷ behind_index at.sort (a.index - first_index sorts at.place) rest) (decimal_digits at.place place_small) (decimal_nonempty at.place place_small)
 
   rest_is_line : IsLine rest
   rest_is_line =
-      let whole : IsLine (decimal a.index ++ 32 ∷ rest) = subst IsLine assigned (assignment_line_is_line widths a (omega (arith, many, few)) is) in
+      let whole : IsLine (decimal a.index ++ 32 ∷ rest) = subst IsLine assigned (assignment_line_is_line widths a many is) in
       let parts = or_parts (list_any (λ b. b == 10) (decimal a.index)) (list_any (λ b. b == 10) (32 ∷ rest)) (sym (list_any-append (λ b. b == 10) (decimal a.index) (32 ∷ rest)) ∙ whole) in
       (or_parts false (list_any (λ b. b == 10) rest) parts.1).1
 
@@ -129,7 +127,7 @@ module _ (sorts : List Sort) (widths : List ℕ) (many : length widths ≡ words
   behind_is_line (words n) c = rest_is_line
   behind_is_line (arrays b n) c = list_any-append (λ d. d == 10) (token b c) (32 ∷ rest) ∙ or_from _ _ (token_without 10 b c (omega arith)) rest_is_line
 
-  pub line_with_is_line : IsLine (line_with (listed (word_fronts sorts)) widths a)
-  line_with_is_line =
+  pub told_line_is_line : IsLine (told_line sorts widths a)
+  told_line_is_line =
       subst IsLine (sym (spelled ∙ front_first at.sort at.place (a.index - first_index sorts at.place) rest))
       (list_any-append (λ b. b == 10) (decimal at.place) (32 ∷ behind_index at.sort (a.index - first_index sorts at.place) rest) ∙ or_from _ _ (decimal_without 10 at.place (omega arith) place_small) (behind_is_line at.sort (a.index - first_index sorts at.place)))

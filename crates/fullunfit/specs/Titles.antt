@@ -6,6 +6,7 @@ use Rattle.btor2.specs.Items.{is_input, is_state}
 use Rattle.full.specs.Lines.{FullLine, Sort, words, arrays, is_form, lines_of}
 use Rattle.witness.specs.Texts.{binary}
 use Rattle.fulljudge.specs.Shapes.{first_index, value_of_word}
+use Rattle.fulljudge.specs.Compared.{has_other_node}
 use Rattle.fulljudge.specs.Kept.{words_in}
 use Rattle.unfit.specs.Joined.{Names}
 
@@ -27,6 +28,13 @@ word_front sorts k = front_of (slice_get sorts (value_of_word sorts k)) (value_o
 -- of all of them, in order
 abbrev pub word_fronts : List Sort → List (List ℕ)
 word_fronts sorts = map (word_front sorts) (range_with_len 0 (words_in sorts))
+
+-- the same in the first frame: of a state that has another node than its leaf's nothing is told there
+abbrev pub first_front : List Sort → List ℕ → List ℕ → ℕ → List ℕ
+first_front sorts leaves nodes k = if has_other_node leaves nodes (value_of_word sorts k) then [] else word_front sorts k
+
+abbrev pub first_fronts : List Sort → List ℕ → List ℕ → List (List ℕ)
+first_fronts sorts leaves nodes = map (first_front sorts leaves nodes) (range_with_len 0 (words_in sorts))
 
 -- ---- behind them
 

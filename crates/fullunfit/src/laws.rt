@@ -1,32 +1,34 @@
 //! Laws of witnesses over models of the whole language, and worked rows, as functions with no code.
-ghost use Rattle.std.specs.Prelude.{◌≡◌, ◌<◌, ◌^◌, ℕ, Bool, true, false, List, [], ◌∷◌, Some, None, codes};
+ghost use Rattle.std.specs.Prelude.{◌≡◌, ◌<◌, ◌^◌, ℕ, Bool, true, false, List, [], ◌∷◌, Ok, Some, None, codes};
+ghost use Rattle.base.specs.Lines.{text_of_lines};
 ghost use Rattle.btor2.specs.declared.item.Item.{Item};
 ghost use Rattle.fit.specs.Fitting.{Layout};
 ghost use Rattle.full.specs.Lines.{FullLine, Sort, words, arrays};
 ghost use Rattle.full.specs.WrittenOut.{Places};
-ghost use Rattle.witness.specs.declared.judgement.Judgement.{Judgement};
-ghost use Rattle.witness.specs.Texts.{Shape, shape_of};
-ghost use Rattle.witness.specs.Judgements.{Judges};
+ghost use Rattle.witness.specs.Admits.{Read, read_text, witness_of};
+ghost use Rattle.witness.specs.Texts.{Shape, shape_of, witness_lines};
 ghost use Rattle.spread.specs.Spread.{spread_text};
-ghost use Rattle.unfit.specs.Joined.{Names};
-ghost use Rattle.unfit.specs.Unfitted.{IsOfWitness, unfit_text};
+ghost use Rattle.unfit.specs.Joined.{Names, join_witness};
+ghost use Rattle.fulljudge.specs.Compared.{StateWords};
+ghost use Rattle.fulljudge.specs.Judged.{IsJudgeable};
 ghost use Rattle.fulljudge.specs.Shapes.{full_shape};
 ghost use Rattle.fulljudge.specs.Kept.{words_in};
 ghost use Rattle.fulljudge.specs.Lines.{words_text};
 ghost use Rattle.fulljudge.specs.Worked.{two_arrays};
 ghost use Rattle.fullunfit.specs.Titles.{word_fronts, word_symbols};
-ghost use Rattle.fullunfit.specs.Unfitted.{IsOfCells, by_values, unfit_full_text};
-ghost use Rattle.fullunfit.specs.Worked.{narrow, names, written};
+ghost use Rattle.fullunfit.specs.Unfitted.{by_values, told_witness, unfit_full_text};
+ghost use Rattle.fullunfit.specs.Worked.{narrow, written, begun_written};
 
-/// A law: of a witness the words by which the text with values tells these are what `unfit` writes over the list in which each word
-/// has a leaf, with the names of the values.
+/// A law: of a witness the words by which the text with values tells these are the lines of what `unfit` makes of it over the list in
+/// which each word has a leaf, with the names of the values, without the words that are not told.
 pub fn values_are_told_by_words()
-    ensures { (states inputs : List Sort) (shape : Shape) (names : Names) (named : Bool) (narrow : List Item)
-        (full : List FullLine) (p : Places) (wide : List Item) (layout : Layout) (celled : List Item) (text : List ℕ) (j : Judgement)
-        → IsOfCells states inputs shape narrow full p wide layout celled → words_in states < 2 ^ 64 → words_in inputs < 2 ^ 64
-        → Judges narrow text j → IsOfWitness j
-        → words_text (full_shape full) (unfit_full_text states inputs shape names named narrow text)
-        ≡ unfit_text (by_values states inputs shape names named).wide narrow text }
+    ensures { (states inputs : List Sort) (w : StateWords) (shape : Shape) (names : Names) (named : Bool) (narrow : List Item)
+        (full : List FullLine) (p : Places) (wide : List Item) (layout : Layout) (celled : List Item) (text : List ℕ) (r : Read)
+        → IsJudgeable states inputs w shape narrow full p wide layout celled → words_in states < 2 ^ 64 → words_in inputs < 2 ^ 64
+        → read_text (shape_of narrow) text ≡ Ok r
+        → words_text (full_shape full) (unfit_full_text states inputs shape names named w narrow text)
+        ≡ text_of_lines (witness_lines (shape_of celled) [] (told_witness (by_values states inputs shape names named w)
+        (join_witness (by_values states inputs shape names named w).wide narrow (witness_of r)))) }
 {}
 
 /// Worked rows: what stands beside the digits of the words of a word of 3 bits, of an array of 4 cells, and of a word of 8 bits.
@@ -50,6 +52,9 @@ pub fn worked_texts()
     ensures faulty { written true (codes "sat\nb0\n@0\n0 11\n@1\n0 1\n.\n") ≡ codes "sat\nb0\n@0\n0 [0] 11 in@0\n" }
     // where no claim is made nothing is said
     ensures no_claim { written true (codes "unsat\n") ≡ [] }
+    // of an array that begins with no constant nothing is told in the first frame, nor ever of a state that is none of the model's
+    ensures begun { begun_written true (codes "sat\nb0\n#0\n0 1\n2 01\n3 1\n@0\n#1\n2 01\n3 0\n@1\n.\n")
+        ≡ codes "sat\nb0\n#0\n0 1 t@0\n@0\n#1\n1 [1] 01 mem@1\n@1\n.\n" }
 {}
 
 /// Worked rows: by its words the text of values says what it was made of, and is spread to that over a list with words of few bits.

@@ -1,10 +1,11 @@
 //! What stands beside the digits of a word in a witness over a model of the whole language.
-ghost use Rattle.std.specs.Prelude.{◌≡◌, ◌<◌, ◌≤◌, ◌^◌, ◌++◌, length};
+ghost use Rattle.std.specs.Prelude.{◌≡◌, ◌<◌, ◌≤◌, ◌^◌, ◌++◌, length, slice_get, unwrap_or};
 ghost use Rattle.fullmodel.specs.Lines.{sort_value};
-ghost use Rattle.fulljudge.specs.Shapes.{word_count};
+ghost use Rattle.fulljudge.specs.Compared.{has_other_node};
+ghost use Rattle.fulljudge.specs.Shapes.{value_of_word, word_count};
 ghost use Rattle.fulljudge.specs.Kept.{words_in};
-ghost use Rattle.unfit.specs.Joined.{listed};
-ghost use Rattle.fullunfit.specs.Titles.{value_front, word_front, word_fronts, word_symbols};
+ghost use Rattle.unfit.specs.Joined.{is_told, listed};
+ghost use Rattle.fullunfit.specs.Titles.{first_fronts, value_front, word_front, word_fronts, word_symbols};
 
 use base::Line;
 use btor2::Symbol;
@@ -43,31 +44,82 @@ fn add_word_front(line: &mut Line, values: &Values, word: u64)
     }
 }
 
+/// The node at a place, and 0 behind the last.
+fn node_at(nodes: &[u32], place: u64) -> u32
+    ensures { result ≡ unwrap_or (slice_get nodes.now place) 0 }
+{
+    if place < nodes.len() as u64 {
+        nodes[place as usize]
+    } else {
+        0
+    }
+}
+
 /// The words of the values of a model's states, or of its inputs, each told by its value, and with its value's name.
 #[derive(Drop)]
 pub(crate) struct ByValue<'v> {
     values: &'v Values,
     symbols: &'v [Option<Symbol>],
+    // the nodes of the states' leaves, and of the states; of inputs none
+    leaves: &'v [u32],
+    nodes: &'v [u32],
 }
 
 impl<'v> ByValue<'v> {
-    /// Those of such values, with these symbols.
-    pub(crate) fn new(values: &'v Values, symbols: &'v [Option<Symbol>]) -> ByValue<'v>
+    /// Those of such values, with these symbols. Of a value of which two different nodes stand in these nothing is told in the first
+    /// frame.
+    pub(crate) fn new(
+        values: &'v Values,
+        symbols: &'v [Option<Symbol>],
+        leaves: &'v [u32],
+        nodes: &'v [u32],
+    ) -> ByValue<'v>
         ensures values { result.values.now ≡ values.now }
         ensures symbols { result.symbols.now ≡ symbols.now }
+        ensures leaves { result.leaves.now ≡ leaves.now }
+        ensures nodes { result.nodes.now ≡ nodes.now }
     {
-        ByValue { values, symbols }
+        ByValue {
+            values,
+            symbols,
+            leaves,
+            nodes,
+        }
+    }
+
+    /// Whether of a word nothing is told in the first frame.
+    fn is_left_out(&self, word: u64) -> bool
+        ensures { result ≡ has_other_node self.now.leaves.now self.now.nodes.now
+            (value_of_word self.now.values.now word) }
+    {
+        let place = value_of_word(self.values, word);
+        node_at(self.leaves, place) != node_at(self.nodes, place)
+    }
+
+    /// Whether a word is told in a frame.
+    fn tells_word(&self, frame: u64, word: u64) -> bool
+        ensures { result ≡ is_told (listed (first_fronts self.now.values.now self.now.leaves.now self.now.nodes.now)
+            (word_fronts self.now.values.now)) frame word }
+    {
+        if word >= self.values.words() {
+            return false;
+        }
+        frame > 0 || !self.is_left_out(word)
     }
 }
 
 impl<'v> Titles for ByValue<'v> {
-    ghost fronts = { λ t. listed (word_fronts t.values.now) };
+    ghost fronts = { λ t. listed (first_fronts t.values.now t.leaves.now t.nodes.now) (word_fronts t.values.now) };
 
     ghost symbols = { λ t. word_symbols t.values.now t.symbols.now };
 
-    fn add_front(&self, line: &mut Line, index: usize) {
+    fn tells(&self, frame: u64, index: usize) -> bool {
+        self.tells_word(frame, index as u64)
+    }
+
+    fn add_front(&self, line: &mut Line, frame: u64, index: usize) {
         let word = index as u64;
-        if word < self.values.words() {
+        if self.tells_word(frame, word) {
             add_word_front(line, self.values, word);
         }
     }

@@ -12,12 +12,13 @@ ghost use Rattle.witness.specs.Judgements.{Judges};
 ghost use Rattle.rejoin.specs.Pieces.{joined_judgement};
 ghost use Rattle.rejoin.specs.Faults.{AnswersUnfit, CountsUnfit, NamesState};
 ghost use Rattle.fulljudge.specs.Judgements.{judged_by};
-ghost use Rattle.fullunfit.specs.Unfitted.{IsOfCells, KeepsFullJudgement, unfit_full_text};
+ghost use Rattle.fulljudge.specs.Judged.{IsJudgeable};
+ghost use Rattle.fullunfit.specs.Unfitted.{KeepsFullJudgement, unfit_full_text};
 
 use crate::titles::ByValue;
 use base::{Sink, Source};
 use btor2::Model;
-use fulljudge::{Values, of_values};
+use fulljudge::{StateWords, Values, of_values};
 use rejoin::{Shape, UnfitFault};
 use std::alloc::Global;
 use unfit::{Names, unfit_by};
@@ -33,10 +34,14 @@ use witness::Judgement;
 /// Of the text one line is held, and what one call of the source gives; beside it what the judge holds, two words for each piece,
 /// and what one call of the sink takes.
 ///
+/// What is told in the first frame of a state that begins with no constant means nothing, and is not written; nor is what is told of
+/// the state that is 1 in the first frame alone. Where that is told to be another, the answer is that the first word of a state
+/// differs which the model has not: that behind the last.
+///
 /// What is written means something where `states` and `inputs` are those of the model, and the list that the model is written out
-/// as, in which each state with an init line begins with a constant, is fitted into one in which each word by which a value is told
-/// has a leaf, and no other state is: an array has one for each of its cells. `shape` is the shape of that list, and `narrow` the
-/// model that it is fitted into. `names` are those of the model.
+/// as is fitted into one in which each word by which a value is told has a leaf: an array has one for each of its cells. `shape` is
+/// the shape of that list, `narrow` the model that it is fitted into, and `words` says where the words of the states stand. `names`
+/// are those of the model.
 ///
 /// Errors: `NoNext` with the first state of `narrow` that has an init and no next, and then nothing was read or written; `Read`
 /// where the source failed in this call, `Write` where the sink did, and `NoMemory` where a growth was refused: then a beginning of
@@ -45,6 +50,7 @@ pub fn unfit_full<S: Source, K: Sink>(
     alloc: Global,
     states: &Values,
     inputs: &Values,
+    words: &StateWords,
     names: &Names,
     shape: &Shape,
     narrow: &Model,
@@ -59,16 +65,16 @@ pub fn unfit_full<S: Source, K: Sink>(
     // what is written says what the text says, and after a fault a beginning of it
     ensures written { OnOk result (IfSome (S.to_come source.old)
         (λ text. Appends (K.written sink.old) (K.written sink.new)
-        (unfit_full_text states.now inputs.now shape.now names.now named narrow.now text))) }
+        (unfit_full_text states.now inputs.now shape.now names.now named words.now narrow.now text))) }
     ensures beginning { OnErr result (IfSome (S.to_come source.old)
         (λ text. AppendsBeginning (K.written sink.old) (K.written sink.new)
-        (unfit_full_text states.now inputs.now shape.now names.now named narrow.now text))) }
+        (unfit_full_text states.now inputs.now shape.now names.now named words.now narrow.now text))) }
     // where it is that of a witness, what is judged of what is written over the model of the whole language is the same
     ensures kept { (full : List FullLine) (p : Places) (wide : List Item) (layout : Layout) (celled : List Item)
-        → IsOfCells states.now inputs.now shape.now narrow.now full p wide layout celled
+        → IsJudgeable states.now inputs.now words.now shape.now narrow.now full p wide layout celled
         → IfOk result (λ judgement. IfSome (S.to_come source.old)
-        (λ text. KeepsFullJudgement full
-        (unfit_full_text states.now inputs.now shape.now names.now named narrow.now text) judgement)) }
+        (λ text. KeepsFullJudgement full celled
+        (unfit_full_text states.now inputs.now shape.now names.now named words.now narrow.now text) judgement)) }
     // a state with an init and no next is named exactly where there is one, the first
     ensures answer { AnswersUnfit result (first_init_without_next narrow.now narrow.now) }
     ensures unread { IfErr result (λ e. NamesState e → source.new ≡ source.old) }
@@ -80,8 +86,13 @@ pub fn unfit_full<S: Source, K: Sink>(
 {
     let _few_states = states.words();
     let _few_inputs = inputs.words();
-    let state_titles = ByValue::new(states, names.states.as_slice());
-    let input_titles = ByValue::new(inputs, names.inputs.as_slice());
+    let state_titles = ByValue::new(
+        states,
+        names.states.as_slice(),
+        words.leaves.as_slice(),
+        words.nodes.as_slice(),
+    );
+    let input_titles = ByValue::new(inputs, names.inputs.as_slice(), &[], &[]);
     match unfit_by(
         alloc,
         shape,

@@ -5,7 +5,6 @@ ghost use Rattle.subcommands.specs.Fitted.{Spreads, Unfits, WritesJudgedFitted};
 ghost use Rattle.verbs.specs.Statuses.{Ends, IfInput};
 ghost use Rattle.verbs.specs.Statuses.Use.{Unused, Used};
 ghost use Rattle.verbs.specs.Fitting.{IsNotFitted};
-ghost use Rattle.verbs.specs.Whole.{IsNotUnfitted};
 
 use crate::answers::Answer;
 use crate::judgements::{tell_line, write_judgement};
@@ -42,7 +41,7 @@ pub fn unfit_witness<A: Source, B: Source, O: Sink, E: Sink>(
 ) -> Result<Answer, Refusal>
     ensures done { IfOk result (Unfits named (A.to_come first.old) (B.to_come second.old)
         (O.written out.old) (O.written out.new) (E.written err.old) (E.written err.new)) }
-    ensures refused { IfErr result (IfInput (IsNotUnfitted (A.to_come first.old))) }
+    ensures refused { IfErr result (IfInput (IsNotFitted (A.to_come first.old))) }
     ensures ends { Ends result (Used A.failures first.old first.new)
         (Used B.failures second.old second.new) (Used O.failures out.old out.new)
         (Used E.failures err.old err.new) }

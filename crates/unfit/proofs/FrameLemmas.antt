@@ -1,5 +1,5 @@
 -- The lines of frames, one frame behind the other, and frames that are joined.
-use Rattle.std.proofs.Common.{◌≡◌, ℕ, suc, ◌+◌, List, [], ◌∷◌, ◌++◌, Option, Some, None, codes, decimal, length, map, refl, sym, ap, ap₂, ◌∙◌, append_assoc, append-nil, arith}
+use Rattle.std.proofs.Common.{◌≡◌, ℕ, suc, ◌+◌, true, filter, List, [], ◌∷◌, ◌++◌, Option, Some, None, codes, decimal, length, map, refl, sym, ap, ap₂, ◌∙◌, append_assoc, append-nil, arith}
 use Rattle.std.proofs.lemmas.List.Concat.{flat_map-append}
 use Rattle.base.specs.Lines.{text_of_lines}
 use Rattle.btor2.specs.declared.item.Item.{Item}
@@ -8,7 +8,7 @@ use Rattle.witness.specs.Admits.{Place, AtStatus, AtClaims, AtParts, InStates, I
 use Rattle.witness.specs.ClosedWords.{said_in}
 use Rattle.witness.proofs.ReadLemmas.{parts_of}
 use Rattle.unfit.specs.Joined.{Wide, by_index, Lined, plain, join_parts, join_frames}
-use Rattle.unfit.specs.Unfitted.{line_with, states_lines_with, frame_lines_with, said_lines, said_lines_with, join_read, unfit_text, unfit_text_with}
+use Rattle.unfit.specs.Unfitted.{told_lines, states_lines_with, frame_lines_with, said_lines, said_lines_with, join_read, unfit_text, unfit_text_with}
 
 -- ---- frames that are joined
 
@@ -29,7 +29,7 @@ frame_lines-append u k [] ys = ap (λ (n : ℕ). frame_lines_with u n ys) (omega
 frame_lines-append u k (parts ∷ xs) ys =
     let count : suc k + length xs ≡ k + suc (length xs) = omega arith in
     let states : List (List ℕ) = states_lines_with u.states u.wide.shape.states k parts.states in
-    let here : List (List ℕ) = map (line_with u.inputs u.wide.shape.inputs) parts.inputs in
+    let here : List (List ℕ) = told_lines u.inputs k u.wide.shape.inputs parts.inputs in
     let rest : List (List ℕ) = frame_lines_with u (suc k) xs in
     let behind : List (List ℕ) = frame_lines_with u (k + suc (length xs)) ys in
     ap (λ (ls : List (List ℕ)). states ++ ((64 ∷ decimal k) ∷ (here ++ ls))) (frame_lines-append u (suc k) xs ys ∙ ap (λ (n : ℕ). rest ++ frame_lines_with u n ys) count)
@@ -42,28 +42,36 @@ module _ (u : Lined) (frames : List Parts) where
   abbrev mark : List ℕ
   mark = 64 ∷ decimal (length frames)
 
-  abbrev line : Assignment → List ℕ
-  line = line_with u.inputs u.wide.shape.inputs
+  abbrev lines : List Assignment → List (List ℕ)
+  lines = told_lines u.inputs (length frames) u.wide.shape.inputs
 
   -- a frame behind others
   pub one_frame : (states : Option (List Assignment)) (list : List Assignment)
-      → frame_lines_with u 0 (frames ++ parts_of states list ∷ []) ≡ front ++ (states_lines_with u.states u.wide.shape.states (length frames) states ++ (mark ∷ map line list))
+      → frame_lines_with u 0 (frames ++ parts_of states list ∷ []) ≡ front ++ (states_lines_with u.states u.wide.shape.states (length frames) states ++ (mark ∷ lines list))
   one_frame states list =
       let count : 0 + length frames ≡ length frames = omega arith in
       frame_lines-append u 0 frames (parts_of states list ∷ [])
       ∙ (ap (λ (n : ℕ). front ++ frame_lines_with u n (parts_of states list ∷ [])) count
-      ∙ ap (λ (ls : List (List ℕ)). front ++ (states_lines_with u.states u.wide.shape.states (length frames) states ++ (mark ∷ ls))) (append-nil (map line list)))
+      ∙ ap (λ (ls : List (List ℕ)). front ++ (states_lines_with u.states u.wide.shape.states (length frames) states ++ (mark ∷ ls))) (append-nil (lines list)))
 
 -- ---- where each word is told by its index
 
+all_kept : (list : List Assignment) → filter (λ (a : Assignment). true) list ≡ list
+all_kept [] = refl
+all_kept (a ∷ list) = ap (λ (l : List Assignment). a ∷ l) (all_kept list)
+
+plain_lines : (widths : List ℕ) (k : ℕ) (list : List Assignment) → told_lines by_index k widths list ≡ map (assignment_line widths) list
+plain_lines widths k list = ap (map (assignment_line widths)) (all_kept list)
+
 plain_states : (widths : List ℕ) (k : ℕ) (o : Option (List Assignment)) → states_lines_with by_index widths k o ≡ states_lines widths k o
 plain_states widths k None = refl
-plain_states widths k (Some list) = refl
+plain_states widths k (Some list) = ap (λ (ls : List (List ℕ)). (35 ∷ decimal k) ∷ ls) (plain_lines widths k list)
 
 plain_frames : (w : Wide) (k : ℕ) (frames : List Parts) → frame_lines_with (plain w) k frames ≡ frame_lines w.shape k frames
 plain_frames w k [] = refl
 plain_frames w k (parts ∷ frames) =
-    ap₂ (λ (a b : List (List ℕ)). a ++ ((64 ∷ decimal k) ∷ (map (assignment_line w.shape.inputs) parts.inputs ++ b))) (plain_states w.shape.states k parts.states) (plain_frames w (suc k) frames)
+    ap₂ (λ (a b : List (List ℕ)). a ++ ((64 ∷ decimal k) ∷ (told_lines by_index k w.shape.inputs parts.inputs ++ b))) (plain_states w.shape.states k parts.states) (plain_frames w (suc k) frames)
+    ∙ ap (λ (ls : List (List ℕ)). states_lines w.shape.states k parts.states ++ ((64 ∷ decimal k) ∷ (ls ++ frame_lines w.shape (suc k) frames))) (plain_lines w.shape.inputs k parts.inputs)
 
 plain_said : (w : Wide) (r : Read) (at : Place) → said_lines_with (plain w) r at ≡ said_lines w.shape r at
 plain_said w r AtStatus = refl

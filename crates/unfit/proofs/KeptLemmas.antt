@@ -32,7 +32,7 @@ plain_by_lines w narrow text = refl
 -- ---- a text that is read
 
 -- it makes a claim
-makes_claim : (shape : Shape) (text : List ℕ) (r : Read) → read_text shape text ≡ Ok r → makes_no_claim 0 (whole_lines text) ≡ false
+pub makes_claim : (shape : Shape) (text : List ℕ) (r : Read) → read_text shape text ≡ Ok r → makes_no_claim 0 (whole_lines text) ≡ false
 makes_claim shape text r read =
     false_from_ne_true (makes_no_claim 0 (whole_lines text)) (λ none.
     let done = (text_was_read (word_reader shape) text r read).done in

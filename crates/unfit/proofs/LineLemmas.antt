@@ -1,8 +1,9 @@
 -- Lines of words: the line of an assignment is parsed, and the lines of a part are those of its words.
-use Rattle.std.proofs.Common.{◌≡◌, ℕ, suc, ◌+◌, ◌-◌, ◌<◌, ◌≤◌, ◌^◌, Bool, true, false, cond, List, [], ◌∷◌, ◌++◌, Option, Some, None, unwrap_or, length, map, reverse, take, drop, get_or, slice_index, decimal, refl, sym, ap, ap₂, ◌∙◌, append_assoc, append-nil, arith, inl, inr, drop-cons, add-one}
+use Rattle.std.proofs.Common.{◌≡◌, ℕ, suc, ◌+◌, ◌-◌, ◌<◌, ◌≤◌, ◌^◌, Bool, true, false, cond, ◌&&◌, filter, List, [], ◌∷◌, ◌++◌, Option, Some, None, unwrap_or, length, map, reverse, take, drop, get_or, slice_index, decimal, refl, sym, ap, ap₂, ◌∙◌, append_assoc, append-nil, arith, inl, inr, drop-cons, add-one}
 use Rattle.std.proofs.lemmas.Bool.{lt-ltb, le-ltb}
 use Rattle.std.proofs.lemmas.List.{drop_all, map-append, length-map, length-reverse, reverse-reverse}
 use Rattle.std.proofs.lemmas.List.Concat.{flat_map-append}
+use Rattle.std.proofs.lemmas.List.Elements.{filter-append}
 use Rattle.base.specs.Decimals.{number_of}
 use Rattle.base.specs.Lines.{HasNone, text_of_lines}
 use Rattle.base.specs.Word.{bits, word}
@@ -14,8 +15,8 @@ use Rattle.witness.specs.KeptLines.{AreNarrow}
 use Rattle.witness.proofs.PieceLemmas.{cut_at_space-parts, binary_digits, bits_of_digits}
 use Rattle.rejoin.specs.Pieces.{piece_count, owner}
 use Rattle.unfit.specs.declared.told_pieces.Piece.{Piece}
-use Rattle.unfit.specs.Joined.{Fronts, front_at, any_told, joined_word, join_word, join_from}
-use Rattle.unfit.specs.Unfitted.{line_with}
+use Rattle.unfit.specs.Joined.{Fronts, front_at, is_told, any_told, joined_word, join_word, join_from}
+use Rattle.unfit.specs.Unfitted.{line_with, told_lines}
 use Rattle.unfit.specs.Steps.{CutsAtSpace, told_text, word_text}
 
 -- ---- a line is parsed
@@ -64,34 +65,45 @@ parsed widths a line index rest digits behind n x narrow is spelled first second
 
 -- ---- the lines of a part
 
-line_of_word : (fronts : Fronts) (widths : List ℕ) (k n : ℕ) (name : Option (List ℕ)) (pieces : List Piece) (b : Bool) → n ≡ get_or widths k 0
-    → text_of_lines (map (line_with fronts widths) (cond b (record { index = k; word = joined_word pieces; symbol = name } ∷ []) [])) ≡ cond b (word_text (front_at fronts k) n name pieces) []
-line_of_word fronts widths k n name pieces false is = refl
-line_of_word fronts widths k n name pieces true is =
-    append-nil (line_with fronts widths (record { index = k; word = joined_word pieces; symbol = name }) ++ 10 ∷ [])
-    ∙ ap (λ (m : ℕ). ((front_at fronts k ++ 32 ∷ binary m (joined_word pieces)) ++ symbol_part name) ++ 10 ∷ []) (sym is)
-    ∙ append_assoc (front_at fronts k ++ 32 ∷ binary n (joined_word pieces)) (symbol_part name) (10 ∷ [])
-    ∙ ap (λ (l : List ℕ). l ++ (symbol_part name ++ 10 ∷ [])) (sym (append_assoc (front_at fronts k) (32 ∷ []) (binary n (joined_word pieces))))
+line_of_word : (fronts : Fronts) (f : ℕ) (widths : List ℕ) (k n : ℕ) (name : Option (List ℕ)) (pieces : List Piece) (t b : Bool) → n ≡ get_or widths k 0
+    → text_of_lines (map (line_with fronts f widths) (cond b (cond t (record { index = k; word = joined_word pieces; symbol = name } ∷ []) []) [])) ≡ cond (t && b) (word_text (front_at fronts f k) n name pieces) []
+line_of_word fronts f widths k n name pieces true false is = refl
+line_of_word fronts f widths k n name pieces false false is = refl
+line_of_word fronts f widths k n name pieces false true is = refl
+line_of_word fronts f widths k n name pieces true true is =
+    append-nil (line_with fronts f widths (record { index = k; word = joined_word pieces; symbol = name }) ++ 10 ∷ [])
+    ∙ ap (λ (m : ℕ). ((front_at fronts f k ++ 32 ∷ binary m (joined_word pieces)) ++ symbol_part name) ++ 10 ∷ []) (sym is)
+    ∙ append_assoc (front_at fronts f k ++ 32 ∷ binary n (joined_word pieces)) (symbol_part name) (10 ∷ [])
+    ∙ ap (λ (l : List ℕ). l ++ (symbol_part name ++ 10 ∷ [])) (sym (append_assoc (front_at fronts f k) (32 ∷ []) (binary n (joined_word pieces))))
 
--- the lines of words from the one with an index on
-abbrev pub lines_from : Fronts → (ℕ → Option (List ℕ)) → List ℕ → ℕ → List Piece → List ℕ
-lines_from fronts name widths k pieces = text_of_lines (map (line_with fronts widths) (join_from name k (drop k widths) pieces))
+kept_word : (fronts : Fronts) (f k word : ℕ) (name : Option (List ℕ)) (b : Bool)
+    → filter (λ (a : Assignment). is_told fronts f a.index) (cond b (record { index = k; word = word; symbol = name } ∷ []) []) ≡ cond b (cond (is_told fronts f k) (record { index = k; word = word; symbol = name } ∷ []) []) []
+kept_word fronts f k word name true = refl
+kept_word fronts f k word name false = refl
 
-pub part_more : (fronts : Fronts) (name : ℕ → Option (List ℕ)) (widths : List ℕ) (k n : ℕ) (pieces here behind : List Piece) → k < length widths → n ≡ get_or widths k 0 → here ≡ take (piece_count n) pieces → behind ≡ drop (piece_count n) pieces
-    → lines_from fronts name widths k pieces ≡ told_text (front_at fronts k) n (name k) here ++ lines_from fronts name widths (k + 1) behind
-part_more fronts name widths k n pieces here behind h is front rest =
+-- the lines of words in frame f from the one with an index on
+abbrev pub lines_from : Fronts → ℕ → (ℕ → Option (List ℕ)) → List ℕ → ℕ → List Piece → List ℕ
+lines_from fronts f name widths k pieces = text_of_lines (told_lines fronts f widths (join_from name k (drop k widths) pieces))
+
+pub part_more : (fronts : Fronts) (f : ℕ) (name : ℕ → Option (List ℕ)) (widths : List ℕ) (k n : ℕ) (pieces here behind : List Piece) → k < length widths → n ≡ get_or widths k 0 → here ≡ take (piece_count n) pieces → behind ≡ drop (piece_count n) pieces
+    → lines_from fronts f name widths k pieces ≡ told_text (is_told fronts f k) (front_at fronts f k) n (name k) here ++ lines_from fronts f name widths (k + 1) behind
+part_more fronts f name widths k n pieces here behind h is front rest =
     let one : drop k widths ≡ n ∷ drop (k + 1) widths = drop-cons widths k 0 h ∙ ap₂ (λ (m : ℕ) (l : List ℕ). m ∷ l) (sym is) (ap (λ (j : ℕ). drop j widths) (sym (add-one k))) in
-    let line : Assignment → List ℕ = line_with fronts widths in
+    let kept : List Assignment → List Assignment = filter (λ (a : Assignment). is_told fronts f a.index) in
+    let line : Assignment → List ℕ = line_with fronts f widths in
     let word : List Assignment = join_word (name k) k (take (piece_count n) pieces) in
     let more : List Assignment = join_from name (suc k) (drop (k + 1) widths) (drop (piece_count n) pieces) in
-    ap (λ (l : List ℕ). text_of_lines (map line (join_from name k l pieces))) one
-    ∙ ap text_of_lines (map-append line word more)
-    ∙ flat_map-append (λ line. line ++ 10 ∷ []) (map line word) (map line more)
-    ∙ ap₂ (λ (a b : List ℕ). a ++ b) (line_of_word fronts widths k n (name k) (take (piece_count n) pieces) (any_told (take (piece_count n) pieces)) is ∙ ap (told_text (front_at fronts k) n (name k)) (sym front))
-    (ap₂ (λ (j : ℕ) (ps : List Piece). text_of_lines (map line (join_from name j (drop (k + 1) widths) ps))) (sym (add-one k)) (sym rest))
+    ap (λ (l : List ℕ). text_of_lines (told_lines fronts f widths (join_from name k l pieces))) one
+    ∙ ap (λ (l : List Assignment). text_of_lines (map line l)) (filter-append (λ (a : Assignment). is_told fronts f a.index) word more)
+    ∙ ap text_of_lines (map-append line (kept word) (kept more))
+    ∙ flat_map-append (λ line. line ++ 10 ∷ []) (map line (kept word)) (map line (kept more))
+    ∙ ap₂ (λ (a b : List ℕ). a ++ b)
+    (ap (λ (l : List Assignment). text_of_lines (map line l)) (kept_word fronts f k (joined_word (take (piece_count n) pieces)) (name k) (any_told (take (piece_count n) pieces)))
+    ∙ line_of_word fronts f widths k n (name k) (take (piece_count n) pieces) (is_told fronts f k) (any_told (take (piece_count n) pieces)) is ∙ ap (told_text (is_told fronts f k) (front_at fronts f k) n (name k)) (sym front))
+    (ap₂ (λ (j : ℕ) (ps : List Piece). text_of_lines (told_lines fronts f widths (join_from name j (drop (k + 1) widths) ps))) (sym (add-one k)) (sym rest))
 
-pub part_end : (fronts : Fronts) (name : ℕ → Option (List ℕ)) (widths : List ℕ) (k : ℕ) (pieces : List Piece) → length widths ≤ k → lines_from fronts name widths k pieces ≡ []
-part_end fronts name widths k pieces h = ap (λ (l : List ℕ). text_of_lines (map (line_with fronts widths) (join_from name k l pieces))) (drop_all k widths h)
+pub part_end : (fronts : Fronts) (f : ℕ) (name : ℕ → Option (List ℕ)) (widths : List ℕ) (k : ℕ) (pieces : List Piece) → length widths ≤ k → lines_from fronts f name widths k pieces ≡ []
+part_end fronts f name widths k pieces h = ap (λ (l : List ℕ). text_of_lines (told_lines fronts f widths (join_from name k l pieces))) (drop_all k widths h)
 
 -- ---- the word that a piece is of
 

@@ -30,7 +30,7 @@ use Rattle.unfit.specs.declared.told_pieces.Piece.{Piece}
 use Rattle.unfit.specs.declared.frame.OpenPart.{OpenPart}
 use Rattle.unfit.specs.declared.frame.OpenPart.TheVariants as part
 use Rattle.unfit.specs.Joined.{Wide, Lined, join_frames, join_states, join_inputs, join_parts, pieces_from, state_words, input_words}
-use Rattle.unfit.specs.Unfitted.{line_with, states_lines_with, frame_lines_with, said_lines_with, join_read}
+use Rattle.unfit.specs.Unfitted.{told_lines, states_lines_with, frame_lines_with, said_lines_with, join_read}
 use Rattle.unfit.specs.Steps.{Frame, HoldsAt, part_at, opened_by, told_at, told_frame, untold, part_text, open_text, text_of_line, closed_frame, keeps, TellsLine, TakesAdmitted}
 use Rattle.unfit.proofs.PieceLemmas.{told_more, all_untold}
 use Rattle.unfit.proofs.FrameLemmas.{length-joined, joined_more, one_frame, text_put}
@@ -199,13 +199,13 @@ module _ (u : Lined) (narrow : List Item) (well : IsWellFormed narrow) (r : Read
 
     -- the lines of its inputs
     abbrev input_lines : List (List ℕ)
-    input_lines = (64 ∷ decimal (length r.closed)) ∷ map (line_with u.inputs w.shape.inputs) last_inputs
+    input_lines = (64 ∷ decimal (length r.closed)) ∷ told_lines u.inputs (length r.closed) w.shape.inputs last_inputs
 
     -- behind the lines before them they are all lines of the frames
     filled : (frame_lines_with u 0 joined ++ states_lines_with u.states w.shape.states (length joined) last_states) ++ input_lines ≡ frame_lines_with u 0 closed
     filled =
         append_assoc (frame_lines_with u 0 joined) (states_lines_with u.states w.shape.states (length joined) last_states) input_lines
-        ∙ ap (λ (n : ℕ). frame_lines_with u 0 joined ++ (states_lines_with u.states w.shape.states (length joined) last_states ++ ((64 ∷ decimal n) ∷ map (line_with u.inputs w.shape.inputs) last_inputs))) (sym (length-joined w narrow 0 r.closed))
+        ∙ ap (λ (n : ℕ). frame_lines_with u 0 joined ++ (states_lines_with u.states w.shape.states (length joined) last_states ++ ((64 ∷ decimal n) ∷ told_lines u.inputs n w.shape.inputs last_inputs))) (sym (length-joined w narrow 0 r.closed))
         ∙ sym (one_frame u joined last_states last_inputs)
 
     module _ (h : HoldsAt narrow r InFrame before) where

@@ -1,6 +1,6 @@
 -- A witness over the model of the profile that a model with words of any width is fitted into, as a witness over that model: the pieces of a word are put together
 -- ("Btor2, BtorMC and Boolector 3.0", witness format; how the one becomes the other is this project's).
-use Rattle.std.specs.Prelude.{ℕ, suc, ◌+◌, ◌*◌, ◌^◌, Bool, true, false, List, [], ◌∷◌, ◌++◌, Option, None, decimal, is_some, unwrap_or, option_map, option_and_then, map, take, drop, slice_index_or, if◌then◌else◌}
+use Rattle.std.specs.Prelude.{ℕ, zero, suc, ◌+◌, ◌*◌, ◌^◌, Bool, true, false, List, [], ◌∷◌, ◌++◌, Option, None, decimal, is_some, unwrap_or, option_map, option_and_then, map, take, drop, slice_index_or, if◌then◌else◌}
 use Rattle.std.specs.List.{list_any}
 use Rattle.btor2.specs.declared.item.Item.{Item}
 use Rattle.btor2.specs.Items.{is_input, is_state, init_word}
@@ -93,14 +93,25 @@ join_witness w narrow v = record { claims = v.claims; frames = join_frames w nar
 
 -- ---- what stands before the digits of a word in its line
 
--- of each word its index, or of each what a list has for it
+-- of each word its index, or of each what a list has for it in the first frame, and another in later ones
 pub data Fronts : Type 0 where
   by_index : Fronts
-  listed : List (List ℕ) → Fronts
+  listed : List (List ℕ) → List (List ℕ) → Fronts
 
-abbrev pub front_at : Fronts → ℕ → List ℕ
-front_at by_index k = decimal k
-front_at (listed fronts) k = slice_index_or fronts k []
+-- of the word with index i in frame k
+abbrev pub front_at : Fronts → ℕ → ℕ → List ℕ
+front_at by_index k i = decimal i
+front_at (listed first later) zero i = slice_index_or first i []
+front_at (listed first later) (suc k) i = slice_index_or later i []
+
+-- whether a word is told in frame k: one for which a list has nothing is not
+abbrev pub has_bytes : List ℕ → Bool
+has_bytes [] = false
+has_bytes (b ∷ bs) = true
+
+abbrev pub is_told : Fronts → ℕ → ℕ → Bool
+is_told by_index k i = true
+is_told (listed first later) k i = has_bytes (front_at (listed first later) k i)
 
 -- what is known of a model, and what stands before the digits of the words of its states and of its inputs
 pub record Lined : Type 0 where

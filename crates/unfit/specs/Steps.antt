@@ -1,5 +1,5 @@
 -- What is held of the frame that is open, and what a line does to it.
-use Rattle.std.specs.Prelude.{◌≡◌, ◌⊎◌, not, ℕ, zero, suc, ◌==◌, Bool, List, [], ◌∷◌, ◌++◌, Option, None, Some, Result, Ok, MatchResult, IfSome, map, length, decimal, slice_get, option_map, unwrap_or, if◌then◌else◌}
+use Rattle.std.specs.Prelude.{◌≡◌, ◌⊎◌, ◌&&◌, not, ℕ, zero, suc, ◌==◌, Bool, List, [], ◌∷◌, ◌++◌, Option, None, Some, Result, Ok, MatchResult, IfSome, map, length, decimal, slice_get, option_map, unwrap_or, if◌then◌else◌}
 use Rattle.std.specs.Io.KnownBytes.{Appends, Consumes}
 use Rattle.base.specs.Device.{AppendsBeginning}
 use Rattle.base.specs.declared.pen.Pen.{Pen}
@@ -18,7 +18,7 @@ use Rattle.unfit.specs.declared.told_pieces.Piece.{Piece}
 use Rattle.unfit.specs.declared.frame.OpenPart.{OpenPart}
 use Rattle.unfit.specs.declared.frame.OpenPart.TheVariants as part
 use Rattle.unfit.specs.Joined.{Fronts, Lined, word_of_piece, any_told, joined_word, join_from, name_at, pieces_from, state_words, input_words}
-use Rattle.unfit.specs.Unfitted.{line_with, unfit_text_with, unfit_lines_with}
+use Rattle.unfit.specs.Unfitted.{told_lines, unfit_text_with, unfit_lines_with}
 
 -- which part is open, and the pieces of the states and of the inputs
 pub record Frame : Type 0 where
@@ -67,7 +67,7 @@ untold pieces = map (λ (p : Piece). record { told = None; otherwise = p.otherwi
 
 -- the lines of a part of frame k, of words of these widths by their pieces
 abbrev pub part_text : Fronts → Bool → List (Option (List ℕ)) → List ℕ → ℕ → List Piece → List ℕ
-part_text fronts named names widths k pieces = text_of_lines (map (line_with fronts widths) (join_from (name_at named names k) 0 widths pieces))
+part_text fronts named names widths k pieces = text_of_lines (told_lines fronts k widths (join_from (name_at named names k) 0 widths pieces))
 
 -- the lines of the part that is open, of frame k
 abbrev pub open_text : Lined → ℕ → Frame → OpenPart → List ℕ
@@ -90,9 +90,9 @@ closed_frame f part.Inputs = record f { inputs = untold f.inputs }
 abbrev pub word_text : List ℕ → ℕ → Option (List ℕ) → List Piece → List ℕ
 word_text front width name pieces = ((front ++ 32 ∷ []) ++ binary width (joined_word pieces)) ++ (symbol_part name ++ 10 ∷ [])
 
--- where one of the pieces is told
-abbrev pub told_text : List ℕ → ℕ → Option (List ℕ) → List Piece → List ℕ
-told_text front width name pieces = if any_told pieces then word_text front width name pieces else []
+-- where the word is told, and one of the pieces is
+abbrev pub told_text : Bool → List ℕ → ℕ → Option (List ℕ) → List Piece → List ℕ
+told_text told front width name pieces = if told && any_told pieces then word_text front width name pieces else []
 
 -- the word of the piece at a place, and 0 behind the last
 abbrev pub piece_word_at : List Piece → ℕ → ℕ

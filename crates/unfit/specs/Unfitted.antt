@@ -1,5 +1,5 @@
 -- The text over a model with words of any width that says what the admitted lines of a text over the fitted model say.
-use Rattle.std.specs.Prelude.{ℕ, suc, List, [], ◌∷◌, ◌++◌, Option, Some, None, codes, decimal, map, option_map, length, slice_index}
+use Rattle.std.specs.Prelude.{ℕ, suc, List, [], ◌∷◌, ◌++◌, Option, Some, None, codes, decimal, map, filter, option_map, length, slice_index}
 use Rattle.base.specs.Lines.{text_of_lines}
 use Rattle.btor2.specs.declared.item.Item.{Item}
 use Rattle.witness.specs.declared.judgement.Judgement.{Judgement}
@@ -8,7 +8,7 @@ use Rattle.witness.specs.Texts.{Shape, Assignment, Parts, binary, symbol_part, c
 use Rattle.witness.specs.Admits.{Read, Place, AtStatus, AtClaims, AtParts, InStates, InFrame, AtEnd}
 use Rattle.witness.specs.ClosedWords.{said_in}
 use Rattle.witness.specs.Judgements.{Judges}
-use Rattle.unfit.specs.Joined.{Wide, Fronts, Lined, front_at, join_frames, join_states}
+use Rattle.unfit.specs.Joined.{Wide, Fronts, Lined, front_at, is_told, join_frames, join_states}
 
 -- the lines that say what is read up to a place, without comments, and without the part that is open
 abbrev pub said_lines : Shape → Read → Place → List (List ℕ)
@@ -38,19 +38,22 @@ unfit_text w narrow text = text_of_lines (unfit_lines w narrow (said_in narrow t
 
 -- ---- the same where other bytes than its index stand before the digits of a word
 
--- the line of a word: what stands before its digits, these, and its name
-abbrev pub line_with : Fronts → List ℕ → Assignment → List ℕ
-line_with fronts widths a = front_at fronts a.index ++ 32 ∷ binary (slice_index widths a.index) a.word ++ symbol_part a.symbol
+-- the line of a word in frame k: what stands before its digits, these, and its name; and those of the words that are told there
+abbrev pub line_with : Fronts → ℕ → List ℕ → Assignment → List ℕ
+line_with fronts k widths a = front_at fronts k a.index ++ 32 ∷ binary (slice_index widths a.index) a.word ++ symbol_part a.symbol
+
+abbrev pub told_lines : Fronts → ℕ → List ℕ → List Assignment → List (List ℕ)
+told_lines fronts k widths list = map (line_with fronts k widths) (filter (λ a. is_told fronts k a.index) list)
 
 -- the lines of a part of states, and those of frames from frame k on
 abbrev pub states_lines_with : Fronts → List ℕ → ℕ → Option (List Assignment) → List (List ℕ)
 states_lines_with fronts widths k None = []
-states_lines_with fronts widths k (Some list) = (35 ∷ decimal k) ∷ map (line_with fronts widths) list
+states_lines_with fronts widths k (Some list) = (35 ∷ decimal k) ∷ told_lines fronts k widths list
 
 abbrev pub frame_lines_with : Lined → ℕ → List Parts → List (List ℕ)
 frame_lines_with l k [] = []
 frame_lines_with l k (parts ∷ more) =
-    states_lines_with l.states l.wide.shape.states k parts.states ++ ((64 ∷ decimal k) ∷ (map (line_with l.inputs l.wide.shape.inputs) parts.inputs ++ frame_lines_with l (suc k) more))
+    states_lines_with l.states l.wide.shape.states k parts.states ++ ((64 ∷ decimal k) ∷ (told_lines l.inputs k l.wide.shape.inputs parts.inputs ++ frame_lines_with l (suc k) more))
 
 -- the lines that say what is read up to a place, as `said_lines` has them
 abbrev pub said_lines_with : Lined → Read → Place → List (List ℕ)

@@ -1,7 +1,7 @@
 //! What stands in the line of a word beside its digits.
 ghost use Rattle.std.specs.Prelude.{◌≡◌, ℕ, true, ◌≤◌, ◌++◌, List, Option, length};
 ghost use Rattle.witness.specs.Texts.{symbol_part};
-ghost use Rattle.unfit.specs.Joined.{Fronts, by_index, front_at, name_at};
+ghost use Rattle.unfit.specs.Joined.{Fronts, by_index, front_at, is_told, name_at};
 
 use base::Line;
 use btor2::Symbol;
@@ -9,18 +9,23 @@ use lift::add_name_in_frame;
 
 /// What stands in the lines of some words beside their digits: before them what says which word it is, and behind them its name.
 pub trait Titles {
-    /// What stands before the digits of each word and the space in front of them.
+    /// What stands before the digits of each word and the space in front of them, frame by frame; of a word before which nothing
+    /// does no line is put.
     ghost fronts: { Self → Fronts };
 
     /// The symbol of each word, in order: none where it has none.
     ghost symbols: { Self → List (Option (List ℕ)) };
 
-    /// Puts what stands before the digits of the word with an index in front of a line.
+    /// Whether a line is put of the word with an index in a frame.
+    fn tells(&self, frame: u64, index: usize) -> bool
+        ensures { result ≡ is_told (fronts self.now) frame index };
+
+    /// Puts what stands before the digits of the word with an index in a frame in front of a line.
     ///
     /// Condition: the line has at most one byte.
-    fn add_front(&self, line: &mut Line, index: usize)
+    fn add_front(&self, line: &mut Line, frame: u64, index: usize)
         requires { length line.old ≤ 1 }
-        ensures { line.new ≡ front_at (fronts self.now) index ++ line.old };
+        ensures { line.new ≡ front_at (fronts self.now) frame index ++ line.old };
 
     /// Puts a space and the name of the word with an index in a frame in front of a line: its symbol, `@` and the frame. Nothing
     /// is put where it has no symbol, or where the name is longer than a symbol may be.
@@ -64,7 +69,11 @@ impl<'n> Titles for ByIndex<'n> {
 
     ghost symbols = { λ t. t.symbols.now };
 
-    fn add_front(&self, line: &mut Line, index: usize) {
+    fn tells(&self, _frame: u64, _index: usize) -> bool {
+        true
+    }
+
+    fn add_front(&self, line: &mut Line, _frame: u64, index: usize) {
         line.number(index as u64);
     }
 

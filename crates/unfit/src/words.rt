@@ -2,7 +2,7 @@
 ghost use Rattle.std.specs.Prelude.{◌≡◌, ◌+◌, ◌≤◌, ◌<◌, ◌∷◌, ◌++◌, [], Option, length, decimal};
 ghost use Rattle.base.specs.Writing.{WritesText};
 ghost use Rattle.witness.specs.Texts.{symbol_part};
-ghost use Rattle.unfit.specs.Joined.{front_at, name_at};
+ghost use Rattle.unfit.specs.Joined.{front_at, is_told, name_at};
 ghost use Rattle.unfit.specs.Steps.{part_text, told_text, word_text};
 
 use crate::digits::put_digits;
@@ -33,12 +33,12 @@ fn put_word<K: Sink, T: Titles>(
     pieces: &[Piece],
 )
     ensures { WritesText K.written K.failures sink.old sink.new pen.old pen.new
-        (word_text (front_at (T.fronts titles.now) index) width
+        (word_text (front_at (T.fronts titles.now) frame index) width
         (name_at named (T.symbols titles.now) frame index) pieces.now) }
 {
     pen.line.clear();
     pen.line.byte(b' ');
-    titles.add_front(&mut pen.line, index);
+    titles.add_front(&mut pen.line, frame, index);
     pen.put_line(sink);
     put_digits(pen, sink, width, pieces);
     pen.line.clear();
@@ -47,7 +47,7 @@ fn put_word<K: Sink, T: Titles>(
     pen.put_line(sink);
 }
 
-/// Puts the line of a word of which a piece is told.
+/// Puts the line of a word of which a piece is told, where the word is told in the frame.
 fn put_told_word<K: Sink, T: Titles>(
     pen: &mut Pen,
     sink: &mut K,
@@ -59,10 +59,11 @@ fn put_told_word<K: Sink, T: Titles>(
     pieces: &[Piece],
 )
     ensures { WritesText K.written K.failures sink.old sink.new pen.old pen.new
-        (told_text (front_at (T.fronts titles.now) index) width
+        (told_text (is_told (T.fronts titles.now) frame index)
+        (front_at (T.fronts titles.now) frame index) width
         (name_at named (T.symbols titles.now) frame index) pieces.now) }
 {
-    if any_told(pieces) {
+    if titles.tells(frame, index) && any_told(pieces) {
         put_word(pen, sink, named, titles, frame, index, width, pieces);
     }
 }

@@ -3,22 +3,20 @@ use Rattle.std.proofs.Common.{◌≡◌, inl, inr, ℕ, Bool, true, List, [], �
 use Rattle.std.specs.Io.KnownBytes.{Appends}
 use Rattle.std.specs.List.{AllZip}
 use Rattle.btor2.specs.declared.item.Item.{Item}
-use Rattle.btor2.specs.Items.{init_word}
 use Rattle.wide.specs.WideModels.{greatest_width, IsWideModel}
 use Rattle.celled.specs.Whole.{IsWhole}
 use Rattle.fit.specs.Fitting.{Layout}
 use Rattle.fitting.specs.Laid.{AreWords}
-use Rattle.full.specs.Lines.{FullLine, Sort, init_of}
+use Rattle.full.specs.Lines.{FullLine, Sort}
 use Rattle.fulljudge.specs.Cells.{HasWordsOf}
-use Rattle.fulljudge.specs.Judged.{HasNoFirst, IsJudgeable}
+use Rattle.fulljudge.specs.Judged.{IsJudgeable}
 use Rattle.fulljudge.specs.Judgements.{judged_by}
-use Rattle.fulljudge.specs.Kept.{words_in}
 use Rattle.fulljudge.specs.Lines.{words_text}
 use Rattle.fulljudge.specs.Shapes.{full_shape}
 use Rattle.fulljudge.specs.Spreading.{KeepsSpread}
 use Rattle.fulltext.specs.Spelling.{StandsForFull}
 use Rattle.fullunfit.specs.Titles.{names_of}
-use Rattle.fullunfit.specs.Unfitted.{IsOfCells, KeepsFullJudgement, unfit_full_text}
+use Rattle.fullunfit.specs.Unfitted.{KeepsFullJudgement, unfit_full_text}
 use Rattle.rejoin.specs.Pieces.{joined_judgement}
 use Rattle.spread.specs.Spread.{IsShort, spread_text}
 use Rattle.unfit.specs.Joined.{Names}
@@ -32,8 +30,8 @@ use Rattle.verbs.specs.declared.refusals.Refusal.TheVariants as refusal
 use Rattle.verbs.specs.declared.whole.Whole.{Whole}
 use Rattle.verbs.specs.Fitting.{IsNotFit, IsNotFitted}
 use Rattle.verbs.specs.Statuses.{IfInput}
-use Rattle.verbs.specs.Unfitting.{IsSpreadWide}
-use Rattle.verbs.specs.Whole.{IsJudgedByWhole, IsJudgedFitted, IsJudgedWhole, IsNotUnfitText, IsNotWhole, IsSpread, IsSpreadByWhole, IsSpreadWhole, IsUnfittedByWhole, IsUnfittedWhole, IsWholeOf}
+use Rattle.verbs.specs.Unfitting.{IsSpreadWide, IsUnfittedWide}
+use Rattle.verbs.specs.Whole.{IsJudgedByWhole, IsJudgedFitted, IsJudgedWhole, IsNotWhole, IsSpread, IsSpreadByWhole, IsSpreadWhole, IsUnfitted, IsUnfittedByWhole, IsUnfittedWhole, IsWholeOf}
 use Rattle.verbs.proofs.FittedLemmas.{not_fitted, seen}
 use Rattle.verbs.proofs.UnfittingLemmas.{ready_as}
 
@@ -45,14 +43,6 @@ not_fit_whole text lines (refusal.Input (fault.Writing e)) stands h = record { l
 not_fit_whole text lines (refusal.Input (fault.Fitting e)) stands h = inr (record { lines = lines; stands = stands; wide = h.0; written = h.1; unfit = h.2 })
 not_fit_whole text lines (refusal.Input _) stands h = absurd h
 not_fit_whole text lines _ stands h = tt
-
--- a text of no model that is written out and fitted
-pub not_unfit_whole : (text : List ℕ) (x : Refusal) → IfInput (IsNotFit text) x → IfInput (IsNotUnfitText text) x
-not_unfit_whole text (refusal.Input (fault.Model e)) h = inr h
-not_unfit_whole text (refusal.Input (fault.Fitting e)) h = h
-not_unfit_whole text (refusal.Input (fault.Writing e)) h = h
-not_unfit_whole text (refusal.Input _) h = absurd h
-not_unfit_whole text _ h = tt
 
 -- what refuses no input refuses none for this
 pub never_input : (P : Fault → Type 0) (x : Refusal) → IfInput (λ f. ⊥) x → IfInput P x
@@ -94,27 +84,6 @@ of_whole full w h words model = record {
   state_words = h.placed.state_words;
 }
 
--- that of a fitted model, where each state with an init line begins with a constant
-pub of_cells : (full : List FullLine) (w : Whole) (h : IsWholeOf full w) → ((id : ℕ) → is_some (init_of full id) ≡ true → is_some (init_word h.written.wide (h.written.places.leaf id)) ≡ true)
-    → HasWordsOf full h.written.places h.written.wide h.written.cells.layout h.celled → IsWideModel greatest_width h.celled → HasNoFirst full h.celled
-    → IsOfCells w.states w.inputs w.shape w.narrow full h.written.places h.written.wide h.written.cells.layout h.celled
-of_cells full w h constants words model none = record {
-  is = record {
-    is_states = h.states;
-    is_inputs = h.inputs;
-    written = h.written.written;
-    constants = constants;
-    words = words;
-    fitted = record { is_shape = h.shape; model = model; fit = h.placed.fit };
-  };
-  none = none;
-}
-
--- the list has no state but those of the words of the model's
-pub words_alone : (full : List FullLine) (w : Whole) (h : IsWholeOf full w) → length w.shape.states ≡ words_in w.states → HasNoFirst full h.celled
-words_alone full w h same =
-    subst (λ (s : Shape). length s.states ≡ words_in (full_shape full).states) h.shape (subst (λ (t : List Sort). length w.shape.states ≡ words_in t) h.states same)
-
 -- ---- what is written
 
 pub spread_by : (full : List FullLine) (w : Whole) (h : IsWholeOf full w) (witness before now : Option (List ℕ)) (j : Judgement) → IsJudgedByWhole full witness j
@@ -150,19 +119,20 @@ made_same full w names h same = rw (h.states, h.inputs, h.shape, same) refl
 
 pub unfitted_by : (named : Bool) (full : List FullLine) (w : Whole) (names : Names) (h : IsWholeOf full w) → names ≡ names_of full → (witness before now : Option (List ℕ)) (j : Judgement)
     → IfSome witness (λ text. (k : Judgement) × (Judges w.narrow text k × (j ≡ judged_by w.states None (joined_judgement w.shape k))))
-    → IfSome witness (λ text. Appends before now (unfit_full_text w.states w.inputs w.shape names named w.narrow text))
-    → IfSome witness (λ text. KeepsFullJudgement full (unfit_full_text w.states w.inputs w.shape names named w.narrow text) j)
+    → IfSome witness (λ text. Appends before now (unfit_full_text w.states w.inputs w.shape names named w.words w.narrow text))
+    → IfSome witness (λ text. KeepsFullJudgement full h.celled (unfit_full_text w.states w.inputs w.shape names named w.words w.narrow text) j)
     → IsUnfittedByWhole named full witness before now j
 unfitted_by named full w names h same witness before now j judged written kept =
     let is = made_same full w names h same in
     record {
       celled = h.celled;
       narrow = w.narrow;
+      words = w.words;
       written_out = h.written;
-      fit = h.placed.fit;
+      placed = h.placed;
       judged = subst (λ (m : Made). IfSome witness (λ text. (k : Judgement) × (Judges w.narrow text k × (j ≡ judged_by m.states None (joined_judgement m.shape k))))) is judged;
-      written = subst (λ (m : Made). IfSome witness (λ text. Appends before now (unfit_full_text m.states m.inputs m.shape m.names named w.narrow text))) is written;
-      kept = subst (λ (m : Made). IfSome witness (λ text. KeepsFullJudgement full (unfit_full_text m.states m.inputs m.shape m.names named w.narrow text) j)) is kept;
+      written = subst (λ (m : Made). IfSome witness (λ text. Appends before now (unfit_full_text m.states m.inputs m.shape m.names named w.words w.narrow text))) is written;
+      kept = subst (λ (m : Made). IfSome witness (λ text. KeepsFullJudgement full h.celled (unfit_full_text m.states m.inputs m.shape m.names named w.words w.narrow text) j)) is kept;
     }
 
 -- ---- what is so over a text that was read is so over what was to come
@@ -206,3 +176,10 @@ pub unfitted_over_text : (named : Bool) (r : Result Judgement Refusal) (text : L
     → IfOk r (IsUnfittedByWhole named lines witness before now) → IfOk r (IsUnfittedWhole named (Some text) witness before now)
 unfitted_over_text named r text lines witness before now stands h =
     where_judged (IsUnfittedByWhole named lines witness before now) (IsUnfittedWhole named (Some text) witness before now) r (λ j k. record { lines = lines; stands = stands; unfitted = k }) h
+
+-- and of what is unfitted
+pub unfitted_by_words : (named : Bool) (r : Result Judgement Refusal) (model witness before now : Option (List ℕ)) → IfOk r (IsUnfittedWide named model witness before now) → IfOk r (IsUnfitted named model witness before now)
+unfitted_by_words named r model witness before now h = where_judged (IsUnfittedWide named model witness before now) (IsUnfitted named model witness before now) r (λ j k. inl k) h
+
+pub unfitted_by_whole : (named : Bool) (r : Result Judgement Refusal) (model witness before now : Option (List ℕ)) → IfOk r (IsUnfittedWhole named model witness before now) → IfOk r (IsUnfitted named model witness before now)
+unfitted_by_whole named r model witness before now h = where_judged (IsUnfittedWhole named model witness before now) (IsUnfitted named model witness before now) r (λ j k. inr k) h

@@ -11,7 +11,6 @@ use Rattle.spread.specs.Spread.{IsShort, spread_text}
 use Rattle.unfit.specs.Joined.{Wide}
 use Rattle.unfit.specs.Naming.{names_of}
 use Rattle.unfit.specs.Unfitted.{KeepsJudgement, unfit_text}
-use Rattle.widetext.specs.FirstFault.{IsWideFaultOf}
 use Rattle.widetext.specs.Spelling.{StandsForWide}
 use Rattle.witness.specs.declared.judgement.Judgement.{Judgement}
 use Rattle.witness.specs.Texts.{shape_of}
@@ -69,26 +68,7 @@ pub record IsUnfittedWide (named : Bool) (model witness before now : Option (Lis
   pub written : IfSome witness (λ text. Appends before now (unfit_text (known_of named wide) narrow text))
   pub kept : IfSome witness (λ text. KeepsJudgement wide (unfit_text (known_of named wide) narrow text) verdict)
 
--- the first text stands for a list with words of any width, and this is its first state with an init and no next
-pub record LacksNextWide (known : Option (List ℕ)) (id : ℕ) : Type 0 where
-  pub wide : List Item
-  pub stands : IfSome known (λ text. StandsForWide text wide)
-  pub first : first_init_without_next wide wide ≡ Some id
-
--- a text stands for no list with words of any width, and this is its first fault; or for one that is not fitted
-abbrev pub IsNotWide : List ℕ → Fault → Type 0
-IsNotWide text (fault.Model e) = IsWideFaultOf text e
-IsNotWide text (fault.Fitting e) = IsUnfitText text e
-IsNotWide text _ = ⊥
-
 -- a text stands for one that is not fitted
 abbrev pub IsUnfitAlone : List ℕ → Fault → Type 0
 IsUnfitAlone text (fault.Fitting e) = IsUnfitText text e
 IsUnfitAlone text _ = ⊥
-
--- the first text stands for no list with words of any width, or for one that is not fitted, or over which nothing is judged
-abbrev pub IsNotReady : Option (List ℕ) → Fault → Type 0
-IsNotReady known (fault.NoNext id) = LacksNextWide known id
-IsNotReady known (fault.Model e) = IfSome known (λ text. IsNotWide text (fault.Model e))
-IsNotReady known (fault.Fitting e) = IfSome known (λ text. IsNotWide text (fault.Fitting e))
-IsNotReady known _ = ⊥

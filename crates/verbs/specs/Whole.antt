@@ -1,39 +1,29 @@
 -- Witnesses of models of the whole language: how they are judged, by the model of the profile that such a one is fitted into.
-use Rattle.std.specs.Prelude.{◌≡◌, ℕ, Bool, List, Option, None, Some, IfSome, map, ◌⊎◌}
+use Rattle.std.specs.Prelude.{◌≡◌, ℕ, Bool, List, Option, None, IfSome, ◌⊎◌}
 use Rattle.std.specs.Io.KnownBytes.{Appends}
-use Rattle.std.specs.List.{AllZip}
 use Rattle.btor2.specs.declared.item.Item.{Item}
-use Rattle.btor2.specs.Items.{is_state}
-use Rattle.celled.specs.Whole.{IsWhole}
 use Rattle.celled.specs.Written.{IsWrittenInCells}
 use Rattle.fitting.specs.Models.{IsFit, IsUnfit}
-use Rattle.full.specs.Lines.{FullLine, full_ids}
+use Rattle.full.specs.Lines.{FullLine}
 use Rattle.fulljudge.specs.Compared.{StateWords}
-use Rattle.fulljudge.specs.Judged.{HasNoFirst, HasStateWords}
+use Rattle.fulljudge.specs.Judged.{HasStateWords}
 use Rattle.fulljudge.specs.Judgements.{judged_by, JudgesFull}
 use Rattle.fulljudge.specs.Lines.{words_text}
 use Rattle.fulljudge.specs.Spreading.{KeepsSpread}
 use Rattle.fullunfit.specs.Titles.{names_of}
 use Rattle.fullunfit.specs.Unfitted.{KeepsFullJudgement, unfit_full_text}
-use Rattle.fulltext.specs.FirstFault.{IsFullFaultOf}
 use Rattle.rejoin.specs.Pieces.{joined_judgement}
 use Rattle.fulljudge.specs.Shapes.{full_shape}
 use Rattle.fulltext.specs.Spelling.{StandsForFull}
 use Rattle.spread.specs.Spread.{IsShort, spread_text}
-use Rattle.widetext.specs.FirstFault.{IsWideFaultOf}
 use Rattle.witness.specs.declared.judgement.Judgement.{Judgement}
 use Rattle.witness.specs.Judgements.{Judges}
 use Rattle.witness.specs.Texts.{shape_of}
 use Rattle.verbs.specs.declared.refusals.Fault.{Fault}
 use Rattle.verbs.specs.declared.refusals.Fault.TheVariants as fault
 use Rattle.verbs.specs.declared.whole.Whole.{Whole}
-use Rattle.verbs.specs.Fitting.{IsUnfitText, IsUnfitWrittenText, IsUnwrittenOrLong, IsUnwrittenText}
-use Rattle.verbs.specs.Unfitting.{IsJudgedWide, IsSpreadWide, IsUnfittedWide, LacksNextWide}
-
--- These are the nodes of the list with cells that a model is written out as that have the words of the states' leaves, and those that have the states' words.
-pub record HasNodes (full : List FullLine) (celled : List Item) (w : IsWrittenInCells full celled) (leaves nodes : List ℕ) : Type 0 where
-  pub of_leaves : AllZip (IsWhole w.wide w.cells.layout celled) (map w.places.leaf (full_ids is_state full)) leaves
-  pub of_states : AllZip (IsWhole w.wide w.cells.layout celled) (map w.places.node (full_ids is_state full)) nodes
+use Rattle.verbs.specs.Fitting.{IsUnwrittenOrLong}
+use Rattle.verbs.specs.Unfitting.{IsJudgedWide, IsSpreadWide, IsUnfittedWide}
 
 -- The list is fitted into a model, in which the words of states stand so.
 pub record IsPlacedOf (full : List FullLine) (celled : List Item) (w : IsWrittenInCells full celled) (narrow : List Item) (words : StateWords) : Type 0 where
@@ -85,11 +75,12 @@ pub record IsSpreadByWhole (full : List FullLine) (witness before now : Option (
 pub record IsUnfittedByWhole (named : Bool) (full : List FullLine) (witness before now : Option (List ℕ)) (verdict : Judgement) : Type 0 where
   pub celled : List Item
   pub narrow : List Item
+  pub words : StateWords
   pub written_out : IsWrittenInCells full celled
-  pub fit : IsFit celled narrow
+  pub placed : IsPlacedOf full celled written_out narrow words
   pub judged : IfSome witness (λ text. (j : Judgement) × (Judges narrow text j × (verdict ≡ judged_by (full_shape full).states None (joined_judgement (shape_of celled) j))))
-  pub written : IfSome witness (λ text. Appends before now (unfit_full_text (full_shape full).states (full_shape full).inputs (shape_of celled) (names_of full) named narrow text))
-  pub kept : IfSome witness (λ text. KeepsFullJudgement full (unfit_full_text (full_shape full).states (full_shape full).inputs (shape_of celled) (names_of full) named narrow text) verdict)
+  pub written : IfSome witness (λ text. Appends before now (unfit_full_text (full_shape full).states (full_shape full).inputs (shape_of celled) (names_of full) named words narrow text))
+  pub kept : IfSome witness (λ text. KeepsFullJudgement full celled (unfit_full_text (full_shape full).states (full_shape full).inputs (shape_of celled) (names_of full) named words narrow text) verdict)
 
 -- the first text is of such a model
 pub record IsSpreadWhole (model witness before now : Option (List ℕ)) (verdict : Judgement) : Type 0 where
@@ -108,30 +99,3 @@ IsSpread model witness before now verdict = IsSpreadWide model witness before no
 
 abbrev pub IsUnfitted : Bool → Option (List ℕ) → Option (List ℕ) → Option (List ℕ) → Option (List ℕ) → Judgement → Type 0
 IsUnfitted named model witness before now verdict = IsUnfittedWide named model witness before now verdict ⊎ IsUnfittedWhole named model witness before now verdict
-
--- ---- why no witness is written
-
--- A text is of a model that is written out with a state more than the words by which its states are told: one of these begins with no constant, or has an init line and no
--- next line.
-pub record IsBeyondConstants (text : List ℕ) : Type 0 where
-  pub lines : List FullLine
-  pub stands : StandsForFull text lines
-  pub celled : List Item
-  pub written_out : IsWrittenInCells lines celled
-  pub more : HasNoFirst lines celled → ⊥
-
--- a text is of no model of which witnesses are written from those of the fitted one
-abbrev pub IsNotUnfitText : List ℕ → Fault → Type 0
-IsNotUnfitText text (fault.NoNext id) = LacksNextWide (Some text) id × IsBeyondConstants text
-IsNotUnfitText text (fault.Model e) = (IsWideFaultOf text e × IsBeyondConstants text) ⊎ IsFullFaultOf text e
-IsNotUnfitText text (fault.Fitting e) = IsUnfitText text e ⊎ IsUnfitWrittenText text e
-IsNotUnfitText text (fault.Writing e) = IsUnwrittenText text e
-IsNotUnfitText text _ = ⊥
-
--- all that was to come is of none
-abbrev pub IsNotUnfitted : Option (List ℕ) → Fault → Type 0
-IsNotUnfitted known (fault.NoNext id) = IfSome known (λ text. IsNotUnfitText text (fault.NoNext id))
-IsNotUnfitted known (fault.Model e) = IfSome known (λ text. IsNotUnfitText text (fault.Model e))
-IsNotUnfitted known (fault.Fitting e) = IfSome known (λ text. IsNotUnfitText text (fault.Fitting e))
-IsNotUnfitted known (fault.Writing e) = IfSome known (λ text. IsNotUnfitText text (fault.Writing e))
-IsNotUnfitted known _ = ⊥

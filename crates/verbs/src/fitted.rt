@@ -2,15 +2,13 @@
 
 ghost use Rattle.std.specs.Prelude.{◌≡◌, ◌≢◌, None, IfOk, IfErr, IfSome, MatchOption, OnOk, Some};
 ghost use Rattle.btor2.specs.Lists.{first_init_without_next};
-ghost use Rattle.celled.specs.Written.{IsWrittenInCells};
+ghost use Rattle.celled.specs.Written.{HasNodes, IsWrittenInCells};
 ghost use Rattle.fulltext.specs.Spelling.{StandsForFull};
 ghost use Rattle.widetext.specs.Spelling.{StandsForWide};
 ghost use Rattle.verbs.specs.Conversions.{of_fitting_written};
 ghost use Rattle.verbs.specs.Fitting.{FitsFirst, IsFitText, IsKept, IsNotFit, IsNotFitted, IsOfWords, IsProfileOf, IsWritingFault, WritesFitting};
 ghost use Rattle.verbs.specs.Statuses.{Ends, IfInput};
 ghost use Rattle.verbs.specs.Statuses.Use.{Unused, Used};
-ghost use Rattle.verbs.specs.Unfitting.{IsNotWide};
-ghost use Rattle.verbs.specs.Whole.{HasNodes};
 
 use crate::refusals::{Device, Fault, Refusal};
 use base::{Sink, Source, read_all};
@@ -23,21 +21,6 @@ use rejoin::first_init_without_next;
 use std::alloc::Global;
 use wide::WideModel;
 use writeout::WriteFault;
-
-/// The model with words of any width that a text stands for.
-pub(crate) fn read_wide(alloc: Global, text: &[u8]) -> Result<WideModel, Refusal>
-    ensures stands { IfOk result (StandsForWide text.now) }
-    ensures refused { IfErr result (IfInput (IsNotWide text.now)) }
-    ensures ends { Ends result Unused Unused Unused Unused }
-{
-    match widetext::read(alloc, text) {
-        Ok(wide) => Ok(wide),
-        Err(fault) => match fault.why {
-            Why::NoMemory => Err(Refusal::NoMemory),
-            _ => Err(Refusal::Input(Fault::Model(fault))),
-        },
-    }
-}
 
 /// The model of the profile that a text stands for, where there is one each of whose states has a next or is free.
 pub(crate) fn read_profile(alloc: Global, text: &[u8]) -> Result<Option<Model>, Refusal>

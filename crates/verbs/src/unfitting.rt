@@ -4,18 +4,18 @@ ghost use Rattle.std.specs.Prelude.{◌≡◌, ℕ, List, IfOk, IfErr, OnOk, Non
 ghost use Rattle.btor2.specs.Lists.{first_init_without_next};
 ghost use Rattle.fitting.specs.Models.{IsFit};
 ghost use Rattle.widetext.specs.Spelling.{StandsForWide};
-ghost use Rattle.verbs.specs.Unfitting.{IsJudgedWide, IsKnown, IsNotReady, IsReadyFor, IsSpreadWide, IsUnfitAlone, IsUnfittedWide};
+ghost use Rattle.verbs.specs.Unfitting.{IsJudgedWide, IsKnown, IsReadyFor, IsSpreadWide, IsUnfitAlone, IsUnfittedWide};
 ghost use Rattle.verbs.specs.Fitting.{IsNotFit, IsNotFitted};
 ghost use Rattle.verbs.specs.Statuses.{Ends, IfInput};
-ghost use Rattle.verbs.specs.Whole.{IsJudgedFitted, IsJudgedWhole, IsNotUnfitText, IsNotUnfitted, IsSpread, IsSpreadWhole, IsUnfitted, IsUnfittedWhole};
+ghost use Rattle.verbs.specs.Whole.{IsJudgedFitted, IsJudgedWhole, IsSpread, IsSpreadWhole, IsUnfitted, IsUnfittedWhole};
 ghost use Rattle.verbs.specs.Statuses.Use.{Unused, Used};
 
-use crate::fitted::{read_profile, read_whole, read_wide, read_words};
-use crate::refusals::{Fault, Refusal};
+use crate::fitted::{read_profile, read_whole, read_words};
+use crate::refusals::Refusal;
 use crate::whole::{judge_whole, spread_whole, unfit_whole, whole_of};
 use base::{Sink, Source, read_all};
 use btor2::Model;
-use rejoin::{Shape, first_init_without_next};
+use rejoin::Shape;
 use std::alloc::Global;
 use unfit::Names;
 use wide::WideModel;
@@ -49,18 +49,6 @@ fn known_of(alloc: Global, wide: &WideModel) -> Result<Known, Refusal>
     Ok(Known { shape, names })
 }
 
-/// Refuses a model of which a state has an init line and no next line.
-fn refuse_lacking(wide: &WideModel) -> Result<(), Refusal>
-    ensures none { OnOk result (first_init_without_next wide.now wide.now ≡ None) }
-    ensures some { IfErr result (λ refusal. (id : ℕ) × (refusal ≡ Refusal.Input (Fault.NoNext id))
-        × (first_init_without_next wide.now wide.now ≡ Some id)) }
-{
-    match first_init_without_next(wide) {
-        Some(id) => Err(Refusal::Input(Fault::NoNext(id))),
-        None => Ok(()),
-    }
-}
-
 /// The model of the profile that a model is fitted into, for which a text stands: that model itself, where it is one.
 fn narrow_of(alloc: Global, text: &[u8], wide: WideModel) -> Result<Model, Refusal>
     requires stands { StandsForWide text.now wide }
@@ -88,17 +76,6 @@ fn ready_of(alloc: Global, text: &[u8], wide: WideModel) -> Result<Ready, Refusa
     let known = known_of(alloc, &wide)?;
     let narrow = narrow_of(alloc, text, wide)?;
     Ok(Ready { known, narrow })
-}
-
-/// What is needed of the model of a text.
-fn made_ready(alloc: Global, text: &[u8]) -> Result<Ready, Refusal>
-    ensures ready { IfOk result (IsReadyFor text.now) }
-    ensures refused { IfErr result (IfInput (IsNotReady (Some text.now))) }
-    ensures ends { Ends result Unused Unused Unused Unused }
-{
-    let wide = read_wide(alloc, text)?;
-    refuse_lacking(&wide)?;
-    ready_of(alloc, text, wide)
 }
 
 /// Judges a witness over the model with words of any width of a text.
@@ -311,28 +288,43 @@ fn unfit_ready<B: Source, O: Sink>(
     }
 }
 
-/// The same over the model of the whole language of a text. Where a state of it begins with no constant, or has an init line and no
-/// next line, this is refused by why the text is of no list with words alone over which it could be said.
+/// The same over the model with words of any width for which a text stands.
+fn unfit_by_words<B: Source, O: Sink>(
+    alloc: Global,
+    named: bool,
+    text: &[u8],
+    wide: WideModel,
+    second: &mut B,
+    out: &mut O,
+) -> Result<Judgement, Refusal>
+    requires stands { StandsForWide text.now wide }
+    requires ready { first_init_without_next wide wide ≡ None }
+    ensures unfitted { IfOk result (IsUnfittedWide named (Some text.now) (B.to_come second.old)
+        (O.written out.old) (O.written out.new)) }
+    ensures refused { IfErr result (IfInput (IsNotFit text.now)) }
+    ensures ends { Ends result Unused (Used B.failures second.old second.new)
+        (Used O.failures out.old out.new) Unused }
+{
+    let ready = ready_of(alloc, text, wide)?;
+    unfit_ready(alloc, named, text, &ready, second, out)
+}
+
+/// The same over the model of the whole language of a text.
 fn unfit_by_whole<B: Source, O: Sink>(
     alloc: Global,
     named: bool,
     text: &[u8],
-    why: Fault,
     second: &mut B,
     out: &mut O,
 ) -> Result<Judgement, Refusal>
-    requires why { IsNotReady (Some text.now) why }
     ensures unfitted { IfOk result (IsUnfittedWhole named (Some text.now) (B.to_come second.old)
         (O.written out.old) (O.written out.new)) }
-    ensures refused { IfErr result (IfInput (IsNotUnfitText text.now)) }
+    ensures refused { IfErr result (IfInput (IsNotFit text.now)) }
     ensures ends { Ends result Unused (Used B.failures second.old second.new)
         (Used O.failures out.old out.new) Unused }
 {
     let model = read_whole(alloc, text)?;
     let whole = whole_of(alloc, &model)?;
-    if !whole.has_words_alone() {
-        return Err(Refusal::Input(why));
-    }
     unfit_whole(alloc, named, &model, &whole, second, out)
 }
 
@@ -346,14 +338,13 @@ fn unfit_over_text<B: Source, O: Sink>(
 ) -> Result<Judgement, Refusal>
     ensures unfitted { IfOk result (IsUnfitted named (Some text.now) (B.to_come second.old)
         (O.written out.old) (O.written out.new)) }
-    ensures refused { IfErr result (IfInput (IsNotUnfitText text.now)) }
+    ensures refused { IfErr result (IfInput (IsNotFit text.now)) }
     ensures ends { Ends result Unused (Used B.failures second.old second.new)
         (Used O.failures out.old out.new) Unused }
 {
-    match made_ready(alloc, text) {
-        Ok(ready) => unfit_ready(alloc, named, text, &ready, second, out),
-        Err(Refusal::Input(why)) => unfit_by_whole(alloc, named, text, why, second, out),
-        Err(refusal) => Err(refusal),
+    match read_words(alloc, text)? {
+        Some(wide) => unfit_by_words(alloc, named, text, wide, second, out),
+        None => unfit_by_whole(alloc, named, text, second, out),
     }
 }
 
@@ -368,7 +359,7 @@ pub fn unfit<A: Source, B: Source, O: Sink>(
 ) -> Result<Judgement, Refusal>
     ensures unfitted { IfOk result (IsUnfitted named (A.to_come first.old) (B.to_come second.old)
         (O.written out.old) (O.written out.new)) }
-    ensures refused { IfErr result (IfInput (IsNotUnfitted (A.to_come first.old))) }
+    ensures refused { IfErr result (IfInput (IsNotFitted (A.to_come first.old))) }
     ensures ends { Ends result (Used A.failures first.old first.new)
         (Used B.failures second.old second.new) (Used O.failures out.old out.new) Unused }
 {

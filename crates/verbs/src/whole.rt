@@ -1,17 +1,10 @@
 //! Witnesses of models of the whole language, by the models of the profile that these are fitted into.
 
-ghost use Rattle.std.specs.Prelude.{◌≡◌, ◌==◌, ◌++◌, IfErr, IfOk, length, map};
-ghost use Rattle.std.specs.List.{AllZip};
-ghost use Rattle.btor2.specs.Items.{is_state};
-ghost use Rattle.celled.specs.Whole.{IsWhole};
-ghost use Rattle.celled.specs.Written.{IsWrittenInCells};
-ghost use Rattle.fitting.specs.Laid.{IsLaid};
-ghost use Rattle.fitting.specs.Models.{IsFit};
-ghost use Rattle.full.specs.Lines.{full_ids};
-ghost use Rattle.fulljudge.specs.Kept.{words_in};
+ghost use Rattle.std.specs.Prelude.{◌≡◌, ◌++◌, IfErr, IfOk};
+ghost use Rattle.celled.specs.Written.{HasNodes, IsWrittenInCells};
 ghost use Rattle.verbs.specs.Statuses.{Ends, IfInput};
 ghost use Rattle.verbs.specs.Statuses.Use.{Unused, Used};
-ghost use Rattle.verbs.specs.Whole.{HasNodes, IsJudgedByWhole, IsNotWhole, IsPlacedOf, IsSpreadByWhole, IsUnfittedByWhole, IsWholeOf};
+ghost use Rattle.verbs.specs.Whole.{IsJudgedByWhole, IsNotWhole, IsPlacedOf, IsSpreadByWhole, IsUnfittedByWhole, IsWholeOf};
 
 use crate::fitted::{refusal_of_written, written_in_cells};
 use crate::refusals::Refusal;
@@ -39,15 +32,6 @@ pub(crate) struct Whole {
     shape: Shape,
     /// The model of the profile that this is fitted into.
     narrow: Model,
-}
-
-impl Whole {
-    /// Whether the states of the list are words of the model's states alone.
-    pub(crate) fn has_words_alone(&self) -> bool
-        ensures { result ≡ (length self.now.shape.states == words_in self.now.states) }
-    {
-        self.shape.states().len() as u64 == self.states.words()
-    }
 }
 
 /// The nodes with the words of states, those of their leaves first.
@@ -173,7 +157,6 @@ pub(crate) fn unfit_whole<B: Source, O: Sink>(
     out: &mut O,
 ) -> Result<Judgement, Refusal>
     requires whole { IsWholeOf model.now whole.now }
-    requires alone { length whole.now.shape.states ≡ words_in whole.now.states }
     ensures unfitted { IfOk result (IsUnfittedByWhole named model.now (B.to_come second.old)
         (O.written out.old) (O.written out.new)) }
     ensures refused { IfErr result (IfInput (λ f. ⊥)) }
@@ -186,6 +169,7 @@ pub(crate) fn unfit_whole<B: Source, O: Sink>(
         alloc,
         &whole.states,
         &whole.inputs,
+        &whole.words,
         &names,
         &whole.shape,
         &whole.narrow,

@@ -23,3 +23,7 @@ returns-clause-faulty c = refl
 pub returns-clause-no_claim : goal.returns-clause-no_claim
 unfolding digits spread_text unfit_text_with word_line reading next_line admit claims_at assignment_at state_assignment_at value_of number_of capped_value is_decimal
 returns-clause-no_claim c = refl
+
+pub returns-clause-begun : goal.returns-clause-begun
+unfolding digits spread_text unfit_text_with word_line reading next_line admit claims_at assignment_at state_assignment_at value_of number_of capped_value is_decimal
+returns-clause-begun c = refl

@@ -1,17 +1,12 @@
 use Rattle.std.proofs.Common.{rules, ◌≡◌, Err, refl}
 use Rattle.verbs.proofs.CountLemmas.{as_is, as_was, ends_as, handed_on, idle, unfailed}
-use Rattle.verbs.proofs.WholeLemmas.{never_refused, not_fit_whole, not_unfit_whole, unfitted_over_text}
+use Rattle.verbs.proofs.WholeLemmas.{never_refused, not_fit_whole, unfitted_over_text}
 use Rattle.verbs.proofs.unfitting.unfit_by_whole.Goals as goal
-
-pub returns-in_err-model-clause-refused : goal.returns-in_err-model-clause-refused
-returns-in_err-model-clause-refused g c =
-    let is : c.from_residual.result ≡ Err c.in_err-model.field-0.0 = search rules in
-    rw is (not_unfit_whole c.args.text.now c.in_err-model.field-0.0 c.in_err-model.ensures.refused)
 
 pub returns-in_err-whole-clause-refused : goal.returns-in_err-whole-clause-refused
 returns-in_err-whole-clause-refused g c =
     let is : c.from_residual-in_err-whole.result ≡ Err c.in_err-whole.field-0.0 = search rules in
-    rw is (not_unfit_whole c.args.text.now c.in_err-whole.field-0.0 (not_fit_whole c.args.text.now c.in_ok-model.model c.in_err-whole.field-0.0 c.in_ok-model.ensures.stands c.in_err-whole.ensures.refused))
+    rw is (not_fit_whole c.args.text.now c.in_ok-model.model c.in_err-whole.field-0.0 c.in_ok-model.ensures.stands c.in_err-whole.ensures.refused)
 
 pub returns-in_err-whole-clause-ends : goal.returns-in_err-whole-clause-ends
 returns-in_err-whole-clause-ends g c =

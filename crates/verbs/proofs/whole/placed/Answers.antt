@@ -9,8 +9,8 @@ fit_with_places-requires c =
     let celled = c.args.celled in
     let w = c.requires.written.0 in
     let has = c.requires.written.1 in
-    let leaves = are_words w.wide w.cells.layout celled.list _ celled.leaves.items has.of_leaves in
-    let nodes = are_words w.wide w.cells.layout celled.list _ celled.nodes.items has.of_states in
+    let leaves = are_words w.wide w.cells.layout celled.list _ celled.leaves.items has.leaves in
+    let nodes = are_words w.wide w.cells.layout celled.list _ celled.nodes.items has.nodes in
     rw c.as_slice.ensures.value (rw c.in_ok-nodes.ensures.nodes (both_words celled.list celled.leaves.items celled.nodes.items leaves nodes))
 
 pub returns-in-Ok-clause-placed : goal.returns-in-Ok-clause-placed
@@ -20,8 +20,7 @@ returns-in-Ok-clause-placed c = λ w has.
     record {
       fit = c.in-Ok.ensures.fits.0;
       state_words = record {
-        leaves = has.of_leaves;
-        nodes = has.of_states;
+        state_nodes = has;
         places = subst (λ (ns : List ℕ). AllZip (IsLaid celled.list c.in-Ok.fitted.model c.in-Ok.ensures.fits.0.layout) ns c.in-Ok.fitted.places) is c.in-Ok.ensures.fits.1;
       };
     }
