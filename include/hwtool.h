@@ -29,7 +29,7 @@ extern "C" {
 #endif
 
 /* The version of the library that this header goes with. */
-#define HWTOOL_VERSION "0.13.0"
+#define HWTOOL_VERSION "0.14.0"
 
 /* The statuses. */
 enum {
