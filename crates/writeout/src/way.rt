@@ -60,6 +60,7 @@ fn kind_by(zero: bool, ones: bool) -> Kind
 }
 
 /// Which constant digits of a width are: behind a minus, those of 1 are all ones.
+#[tactic(auto, using(crate::proofs::DigitLemmas::digits_by, crate::proofs::DigitLemmas::negative_digits))]
 fn digits_kind(spelling: Spelling, number: &[u64], width: u64) -> Kind
     requires { number_of_digits number.now < 2 ^ width }
     ensures { (s count : ℕ) → result ≡ kind_of_form width (constant_body spelling s count (number_of_digits number.now)) }
