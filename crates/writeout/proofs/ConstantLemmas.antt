@@ -1,5 +1,5 @@
 -- Constants that have the first words of states.
-use Rattle.std.proofs.Common.{◌≡◌, ◌⊎◌, inl, inr, ℕ, suc, zero, ◌+◌, ◌-◌, ◌*◌, ◌^◌, ◌≤◌, Bool, true, false, true≢false, cond, List, [], ◌∷◌, ◌++◌, Option, Some, None, is_some, unwrap_or, option_map, option_and_then, refl, sym, ap, ap₂, subst, ◌∙◌, arith}
+use Rattle.std.proofs.Common.{◌≡◌, ◌⊎◌, inl, inr, ℕ, suc, zero, ◌+◌, ◌-◌, ◌*◌, ◌^◌, ◌≤◌, Bool, true, false, true≢false, cond, nat_eq, eqb-true, List, [], ◌∷◌, ◌++◌, Option, Some, None, is_some, unwrap_or, option_map, option_and_then, refl, sym, ap, ap₂, subst, ◌∙◌, arith}
 use Rattle.std.proofs.lemmas.Option.{same_Some}
 use Rattle.std.proofs.lemmas.Nat.{pow-add, pow_pos}
 use Rattle.base.specs.declared.operators.Unary.TheVariants as unary
@@ -21,7 +21,7 @@ use Rattle.writeout.specs.declared.way.Kind.{Kind}
 use Rattle.writeout.specs.declared.way.Kind.TheVariants as kind
 use Rattle.writeout.specs.declared.way.Way.{Way}
 use Rattle.writeout.specs.declared.way.Way.TheVariants as way
-use Rattle.writeout.specs.Ways.{kind_of_form, kind_of, kind_at, way_by, way_with, way_of}
+use Rattle.writeout.specs.Ways.{kind_by, kind_of_form, kind_of, kind_at, way_by, way_with, way_of}
 use Rattle.writeout.specs.Needs.{place_of}
 use Rattle.writeout.specs.Nodes.{IsConstantOf, LineStands, NodesStand}
 use Rattle.writeout.specs.Writings.{Writing, Settled, with_items, Grows}
@@ -143,21 +143,49 @@ by_ones kind.Neither b h = absurd (cc)
 
 -- ---- the line of a constant
 
--- what is known of a constant's form
-record IsConstantForm (b : Body) : Type 0 where
+-- what is known of a constant's form of a width
+record IsConstantForm (n : ℕ) (b : Body) : Type 0 where
   there : is_some (constant_word 0 b) ≡ true
-  word : (n : ℕ) → (v : ℕ) × (constant_word n b ≡ Some v)
-  zeros : kind_of_form b ≡ kind.Zero → (n : ℕ) → constant_word n b ≡ Some 0
-  ones : kind_of_form b ≡ kind.Ones → (n : ℕ) → constant_word n b ≡ Some (ones n)
+  word : ℕ
+  is : constant_word n b ≡ Some word
+  zeros : kind_of_form n b ≡ kind.Zero → word ≡ 0
+  ones : kind_of_form n b ≡ kind.Ones → word ≡ ones n
 
-constant_form : (b : Body) → (kind_of_form b ≡ kind.Neither → ⊥) → IsConstantForm b
-constant_form (body.Zero s) h = record { there = refl; word = λ n. (_, refl); zeros = λ e n. refl; ones = λ e n. absurd (cc) }
-constant_form (body.One s) h = record { there = refl; word = λ n. (_, refl); zeros = λ e n. absurd (cc); ones = λ e n. absurd (cc) }
-constant_form (body.Ones s) h = record { there = refl; word = λ n. (_, refl); zeros = λ e n. absurd (cc); ones = λ e n. refl }
-constant_form (body.Const s d v) h = record { there = refl; word = λ n. (_, refl); zeros = λ e n. absurd (cc); ones = λ e n. absurd (cc) }
-constant_form (body.Constd s v) h = record { there = refl; word = λ n. (_, refl); zeros = λ e n. absurd (cc); ones = λ e n. absurd (cc) }
-constant_form (body.Consth s d v) h = record { there = refl; word = λ n. (_, refl); zeros = λ e n. absurd (cc); ones = λ e n. absurd (cc) }
-constant_form _ h = absurd (h refl)
+kind_zero : (v : ℕ) (a b : Bool) → nat_eq v 0 ≡ a → kind_by a b ≡ kind.Zero → v ≡ 0
+kind_zero v true b e h = eqb-true v 0 e
+kind_zero v false true e h = absurd (cc)
+kind_zero v false false e h = absurd (cc)
+
+kind_ones : (v w : ℕ) (a b : Bool) → nat_eq v w ≡ b → kind_by a b ≡ kind.Ones → v ≡ w
+kind_ones v w true b e h = absurd (cc)
+kind_ones v w false true e h = eqb-true v w e
+kind_ones v w false false e h = absurd (cc)
+
+-- of any width it is one
+constant_any : (n : ℕ) (b : Body) → is_some (constant_word n b) ≡ is_some (constant_word 0 b)
+constant_any n (body.Zero s) = refl
+constant_any n (body.One s) = refl
+constant_any n (body.Ones s) = refl
+constant_any n (body.Const s d v) = refl
+constant_any n (body.Constd s v) = refl
+constant_any n (body.Consth s d v) = refl
+constant_any n _ = refl
+
+constant_form : (n : ℕ) (b : Body) → (kind_of_form n b ≡ kind.Neither → ⊥) → IsConstantForm n b
+constant_form n b h = by (constant_word n b) refl
+  where
+    Kind_with : Option ℕ → Kind
+    Kind_with o = unwrap_or (option_map (λ v. kind_by (nat_eq v 0) (nat_eq v (ones n))) o) kind.Neither
+
+    by : (o : Option ℕ) → constant_word n b ≡ o → IsConstantForm n b
+    by None e = absurd (h (ap Kind_with e))
+    by (Some v) e = record {
+      there = sym (constant_any n b) ∙ ap is_some e;
+      word = v;
+      is = e;
+      zeros = λ k. kind_zero v (nat_eq v 0) (nat_eq v (ones n)) refl (sym (ap Kind_with e) ∙ k);
+      ones = λ k. kind_ones v (ones n) (nat_eq v 0) (nat_eq v (ones n)) refl (sym (ap Kind_with e) ∙ k);
+    }
 
 -- a frame has the word of a constant's line
 constant_says : (full : List FullLine) (f : ℕ → ℕ) (id v : ℕ) (b : Body) (minuses : List Bool) → is_some (constant_word 0 b) ≡ true → constant_word (width_of full id) b ≡ Some v → LineSays full f id (form b minuses) → f id ≡ v
@@ -172,9 +200,9 @@ constant_says full f id v _ minuses there e h = absurd (cc)
 plain_word : (full : List FullLine) (f : ℕ → ℕ) (o : Operand) → o.minus ≡ false → operand_word full f o ≡ f o.id
 plain_word full f o minus = ap (λ (b : Bool). cond b (unary_value unary.Not (width_of full o.id) (f o.id)) (f o.id)) minus
 
-form_of : (b : Says) → (kind_of b ≡ kind.Neither → ⊥) → (c : Body) × (minuses : List Bool) × (b ≡ form c minuses)
-form_of (form c minuses) h = (c, minuses, refl)
-form_of _ h = absurd (h refl)
+form_of : (n : ℕ) (b : Says) → (kind_of n b ≡ kind.Neither → ⊥) → (c : Body) × (minuses : List Bool) × (b ≡ form c minuses)
+form_of n (form c minuses) h = (c, minuses, refl)
+form_of n _ h = absurd (h refl)
 
 -- the value of an init is a constant, whose node is one of the same word
 pub record ConstantStands (full : List FullLine) (w : Writing) (o : Operand) : Type 0 where
@@ -187,16 +215,16 @@ pub record ConstantStands (full : List FullLine) (w : Writing) (o : Operand) : T
 
 pub constant_stands : (full : List FullLine) (w : Writing) (o : Operand) → IsFullModel full → NodesStand full w → HasItsNode full w o → o.minus ≡ false → (kind_at full o.id ≡ kind.Neither → ⊥) → ConstantStands full w o
 constant_stands full w o m h has minus constant = record {
-  word = word.0;
-  node = own word.1;
+  word = known.word;
+  node = own word;
   width = line.width ∙ ap (λ (i : ℕ). Some (width_of full i)) (sym at.same);
   value = λ p wide g state input f is given frame.
       plain_word full (read_by p f) o minus
       ∙ ap (λ (i : ℕ). f (p.node i)) at.same
-      ∙ constant_says full (read_by p f) at.line.id word.0 parts.0 parts.1 known.there word.1
+      ∙ constant_says full (read_by p f) at.line.id known.word parts.0 parts.1 known.there word
       (subst (λ (b : Says). LineSays full (read_by p f) at.line.id b) parts.2 (line.carried p wide g (g.nodes (place_of full o.id) at.line at.at has.given) state input f is given frame));
-  zeros = λ e. same_Some word.0 0 (sym word.1 ∙ known.zeros (sym kinds ∙ e) (width_of full at.line.id));
-  ones = λ e. same_Some word.0 (ones (width_of full at.line.id)) (sym word.1 ∙ known.ones (sym kinds ∙ e) (width_of full at.line.id)) ∙ ap (λ (i : ℕ). ones (width_of full i)) (sym at.same);
+  zeros = λ e. known.zeros (sym kinds ∙ e);
+  ones = λ e. known.ones (sym kinds ∙ e);
 }
   where
     at : NodeLine full o.id
@@ -208,20 +236,20 @@ constant_stands full w o m h has minus constant = record {
     found : find_line full o.id ≡ Some at.line
     found = ap (find_line full) at.same ∙ all_get (λ (y : FullLine). find_line full y.id ≡ Some y) full (place_of full o.id) at.line (each_found full m) at.at
 
-    kind_line : kind_at full o.id ≡ kind_of at.line.says
-    kind_line = ap (λ (l : Option FullLine). unwrap_or (option_map (λ (x : FullLine). kind_of x.says) l) kind.Neither) found
+    kind_line : kind_at full o.id ≡ kind_of (width_of full o.id) at.line.says
+    kind_line = ap (λ (l : Option FullLine). unwrap_or (option_map (λ (x : FullLine). kind_of (width_of full o.id) x.says) l) kind.Neither) found
 
     parts : (c : Body) × (minuses : List Bool) × (at.line.says ≡ form c minuses)
-    parts = form_of at.line.says (λ e. constant (kind_line ∙ e))
+    parts = form_of (width_of full o.id) at.line.says (λ e. constant (kind_line ∙ e))
 
-    kinds : kind_at full o.id ≡ kind_of_form parts.0
-    kinds = kind_line ∙ ap kind_of parts.2
+    kinds : kind_at full o.id ≡ kind_of_form (width_of full o.id) parts.0
+    kinds = kind_line ∙ ap (kind_of (width_of full o.id)) parts.2
 
-    known : IsConstantForm parts.0
-    known = constant_form parts.0 (λ e. constant (kinds ∙ e))
+    known : IsConstantForm (width_of full o.id) parts.0
+    known = constant_form (width_of full o.id) parts.0 (λ e. constant (kinds ∙ e))
 
-    word : (v : ℕ) × (constant_word (width_of full at.line.id) parts.0 ≡ Some v)
-    word = known.word (width_of full at.line.id)
+    word : constant_word (width_of full at.line.id) parts.0 ≡ Some known.word
+    word = ap (λ (i : ℕ). constant_word (width_of full i) parts.0) (sym at.same) ∙ known.is
 
     own : {v : ℕ} → constant_word (width_of full at.line.id) parts.0 ≡ Some v → constant_of w.items (node_at full w o.id) ≡ Some v
     own e = (let c : IsConstantOf full w at.line.id (form parts.0 parts.1) (at_place w.nodes (place_of full o.id)) = subst (λ (b : Says). IsConstantOf full w at.line.id b (at_place w.nodes (place_of full o.id))) parts.2 line.constant in c known.there) ∙ e

@@ -10,6 +10,7 @@ pub mod StepLemmas
 pub mod SizeLemmas
 pub mod OperandLemmas
 pub mod LineLemmas
+pub mod DigitLemmas
 pub mod NodeLemmas
 pub mod EndLemmas
 pub mod LeafLemmas

@@ -11,7 +11,7 @@ use Rattle.btor2.specs.Check.{widths_agree, is_no_slice, slice_is_out_of_range}
 use Rattle.btor2.specs.Trace.{bits_of}
 use Rattle.btor2.proofs.AppendLemmas.{some_of}
 use Rattle.wide.specs.WideModels.{greatest_width, constant_fits_within}
-use Rattle.full.specs.Lines.{Operand, with_minuses, Says, form, FullLine, operands_of, find_line, sort_at, sort_named, sort_of, sort_of_node, size_of, width_of}
+use Rattle.full.specs.Lines.{Operand, with_minuses, Says, form, FullLine, Sort, operands_of, find_line, sort_at, sort_named, sort_of, sort_of_node, size_of, width_of}
 use Rattle.full.specs.Agreement.{LineAgrees, SaysAgree, WidthsAgree, IsFullAfter, IsFullModel}
 use Rattle.full.proofs.FullLookUps.{sort_on, node_on, each_nodes, each_found}
 use Rattle.cells.specs.Kept.{IsSound}
@@ -133,11 +133,45 @@ value_named (body.Concat s a b) value = (s, refl, refl)
 value_named (body.Ite s c t e) value = (s, refl, refl)
 value_named _ value = absurd (cc)
 
--- the width of a form's sort
-sort_on_full : (full front rest : List FullLine) (x : FullLine) (s : ℕ) → full ≡ front ++ x ∷ rest → is_some (sort_at front s) ≡ true → size_of (sort_at front s) ≡ size_of (sort_at full s)
-sort_on_full full front rest x s e there =
-    let t = some_of (sort_at front s) there in
-    ap size_of (t.1 ∙ sym (sort_on front (x ∷ rest) s t.0 t.1)) ∙ ap (λ (l : List FullLine). size_of (sort_at l s)) (sym e)
+-- the sort of a form with a value, among the lines before it
+record FormSort (full front : List FullLine) (t : FullLine) (b : Body) : Type 0 where
+  sort : ℕ
+  node : node_sort b ≡ Some sort
+  named : named_sort b ≡ Some sort
+  there : is_some (sort_of_node full t.id) ≡ true
+  size : size_of (sort_at front sort) ≡ width_of full t.id
+
+form_sort : (full : List FullLine) (t : FullLine) (b : Body) (minuses : List Bool) (own : AgreesAt full t) → IsFullModel full → IsLine full t → t.says ≡ form b minuses → is_value b ≡ true → FormSort full own.front t b
+form_sort full t b minuses own w line says value = record {
+  sort = named.0;
+  node = named.1;
+  named = named.2;
+  there = ap is_some (is ∙ found);
+  size = ap size_of (s.1 ∙ sym (is ∙ found));
+}
+  where
+    named : (s : ℕ) × (node_sort b ≡ Some s) × (named_sort b ≡ Some s)
+    named = value_named b value
+
+    s : (v : Sort) × (sort_at own.front named.0 ≡ Some v)
+    s = some_of (sort_at own.front named.0) (subst (λ (o : Option ℕ). IfSome o (λ s. is_some (sort_at own.front s) ≡ true)) (ap sort_named says ∙ named.1) own.agrees.sort)
+
+    found : sort_at full named.0 ≡ Some s.0
+    found = ap (λ (l : List FullLine). sort_at l named.0) own.is ∙ sort_on own.front (t ∷ own.rest) named.0 s.0 s.1
+
+    is : sort_of_node full t.id ≡ sort_at full named.0
+    is = line_node full t w line ∙ ap (sort_of full) says ∙ ap (option_and_then (sort_at full)) named.1
+
+-- a form's node has a sort, and a constant fits it
+pub form_there : (full : List FullLine) (t : FullLine) (b : Body) (minuses : List Bool) → IsFullModel full → IsLine full t → t.says ≡ form b minuses → is_value b ≡ true → is_some (sort_of_node full t.id) ≡ true
+form_there full t b minuses w line says value = (form_sort full t b minuses (agrees_at full t w line) w line says value).there
+
+pub form_fits : (full : List FullLine) (t : FullLine) (b : Body) (minuses : List Bool) → IsFullModel full → IsLine full t → t.says ≡ form b minuses → is_value b ≡ true → constant_fits_within greatest_width (width_of full t.id) b ≡ true
+form_fits full t b minuses w line says value =
+    let own = agrees_at full t w line in
+    let its = form_sort full t b minuses own w line says value in
+    let agrees : SaysAgree own.front (form b minuses) = subst (SaysAgree own.front) says own.agrees.agrees in
+    ap (λ (n : ℕ). constant_fits_within greatest_width n b) (sym its.size ∙ ap (λ (o : Option ℕ). size_of (sort_at own.front (unwrap_or o 0))) (sym its.named)) ∙ agrees.2
 
 -- operands that are there as wide
 abbrev pub AsWide : List FullLine → List Item → ℕ → ℕ → Type 0
@@ -153,7 +187,7 @@ form_sound full t b minuses items r x y z w line says value sort at0 at1 at2 =
     (at_with (AsWide full items y) (λ a. is_some (node_width items y) ≡ true) (operands b) 1 (λ a h. ap is_some h) at1) (at_with (AsWide full items z) (λ a. is_some (node_width items z) ≡ true) (operands b) 2 (λ a h. ap is_some h) at2)))
     (slice_sound items (width_of own.front) r x y z b value widths.1 (same x 0 at0))
     (sym (widths_same (λ k. size_of (sort_at own.front k)) (width_of own.front) (λ k. unwrap_or (sort_width items k) 0) (bits_of items) r x y z b value sort_same (same x 0 at0) (same y 1 at1) (same z 2 at2)) ∙ widths.0)
-    (form_is.fits (width_of full t.id) ∙ ap (λ (n : ℕ). constant_fits_within greatest_width n b) (sym size ∙ ap (λ (o : Option ℕ). size_of (sort_at own.front (unwrap_or o 0))) (sym named.2)) ∙ agrees.2)
+    (form_is.fits (width_of full t.id) ∙ form_fits full t b minuses w line says value)
   where
     own : AgreesAt full t
     own = agrees_at full t w line
@@ -161,8 +195,8 @@ form_sound full t b minuses items r x y z w line says value sort at0 at1 at2 =
     form_is : IsForm r b (renamed r x y z b)
     form_is = renamed_form r x y z b value
 
-    named : (s : ℕ) × (node_sort b ≡ Some s) × (named_sort b ≡ Some s)
-    named = value_named b value
+    its : FormSort full own.front t b
+    its = form_sort full t b minuses own w line says value
 
     agrees : SaysAgree own.front (form b minuses)
     agrees = subst (SaysAgree own.front) says own.agrees.agrees
@@ -170,14 +204,8 @@ form_sound full t b minuses items r x y z w line says value sort at0 at1 at2 =
     widths : (widths_agree (λ k. size_of (sort_at own.front k)) (width_of own.front) b ≡ true) × SliceFits (width_of own.front) b
     widths = value_widths own.front b value agrees.1
 
-    there : is_some (sort_at own.front named.0) ≡ true
-    there = subst (λ (o : Option ℕ). IfSome o (λ s. is_some (sort_at own.front s) ≡ true)) (ap sort_named says ∙ named.1) own.agrees.sort
-
-    size : size_of (sort_at own.front named.0) ≡ width_of full t.id
-    size = sort_on_full full own.front own.rest t named.0 own.is there ∙ ap size_of (sym (line_node full t w line ∙ ap (sort_of full) says ∙ ap (option_and_then (sort_at full)) named.1))
-
     sort_same : size_of (sort_at own.front (unwrap_or (node_sort b) 0)) ≡ unwrap_or (sort_width items r) 0
-    sort_same = ap (λ (o : Option ℕ). size_of (sort_at own.front (unwrap_or o 0))) named.1 ∙ size ∙ sym (ap (λ (o : Option ℕ). unwrap_or o 0) sort)
+    sort_same = ap (λ (o : Option ℕ). size_of (sort_at own.front (unwrap_or o 0))) its.node ∙ its.size ∙ sym (ap (λ (o : Option ℕ). unwrap_or o 0) sort)
 
     nodes : AllByRecursion (λ (o : Operand). is_some (sort_of_node own.front o.id) ≡ true) (with_minuses (operands b) minuses)
     nodes = subst (λ (c : Says). AllByRecursion (λ (o : Operand). is_some (sort_of_node own.front o.id) ≡ true) (operands_of c)) says own.agrees.nodes

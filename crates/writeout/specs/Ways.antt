@@ -1,30 +1,38 @@
 -- How the init line of a state is written.
-use Rattle.std.specs.Prelude.{ℕ, Bool, true, false, List, Option, Some, None, option_map, unwrap_or, if◌then◌else◌}
+use Rattle.std.specs.Prelude.{◌≡◌, ℕ, ◌^◌, ◌<◌, ◌==◌, Bool, true, false, List, [], Option, Some, None, option_map, unwrap_or, if◌then◌else◌}
+use Rattle.base.specs.Operator.{ones}
 use Rattle.btor2.specs.declared.item.Body.{Body}
-use Rattle.btor2.specs.declared.item.Body.TheVariants as body
-use Rattle.full.specs.Lines.{Operand, Says, form, FullLine, find_line, sort_of_node, init_of, next_of}
+use Rattle.btor2.specs.Items.{constant_word}
+use Rattle.wide.specs.declared.constant.Spelling.{Spelling}
+use Rattle.wide.specs.Lines.{constant_body}
+use Rattle.full.specs.Lines.{Operand, Says, form, FullLine, find_line, sort_of_node, width_of, init_of, next_of}
 use Rattle.full.specs.Agreement.{is_words}
 use Rattle.writeout.specs.declared.way.Kind.{Kind}
 use Rattle.writeout.specs.declared.way.Kind.TheVariants as kind
 use Rattle.writeout.specs.declared.way.Way.{Way}
 use Rattle.writeout.specs.declared.way.Way.TheVariants as way
 
--- which constant a line is
-abbrev pub kind_of_form : Body → Kind
-kind_of_form (body.Zero s) = kind.Zero
-kind_of_form (body.One s) = kind.Other
-kind_of_form (body.Ones s) = kind.Ones
-kind_of_form (body.Const s d v) = kind.Other
-kind_of_form (body.Constd s v) = kind.Other
-kind_of_form (body.Consth s d v) = kind.Other
-kind_of_form _ = kind.Neither
+-- Which constant it is, by whether its word is 0, and whether all its bits are 1.
+abbrev pub kind_by : Bool → Bool → Kind
+kind_by true ones = kind.Zero
+kind_by false true = kind.Ones
+kind_by false false = kind.Other
 
-abbrev pub kind_of : Says → Kind
-kind_of (form b minuses) = kind_of_form b
-kind_of _ = kind.Neither
+-- a form of a width, by its word, where it is a constant
+abbrev pub kind_of_form : ℕ → Body → Kind
+kind_of_form n b = unwrap_or (option_map (λ v. kind_by (v == 0) (v == ones n)) (constant_word n b)) kind.Neither
+
+-- a line of a width, and that with an id
+abbrev pub kind_of : ℕ → Says → Kind
+kind_of n (form b minuses) = kind_of_form n b
+kind_of n _ = kind.Neither
 
 abbrev pub kind_at : List FullLine → ℕ → Kind
-kind_at full id = unwrap_or (option_map (λ (x : FullLine). kind_of x.says) (find_line full id)) kind.Neither
+kind_at full id = unwrap_or (option_map (λ (x : FullLine). kind_of (width_of full id) x.says) (find_line full id)) kind.Neither
+
+-- the number of a constant in digits fits a width
+abbrev pub NumberFits : ℕ → Says → Type 0
+NumberFits n b = (spelling : Spelling) (s count v : ℕ) → b ≡ form (constant_body spelling s count v) [] → v < 2 ^ n
 
 -- the way of a state of words, or of arrays, that begins with such a value and has a next line
 abbrev pub way_by : Kind → Bool → Way

@@ -18,9 +18,9 @@ begun_state = record { id = 2; symbol = None; says = form (body.State 1) [] }
 abbrev pub circular : List FullLine
 circular = lines_numbered 1 (form (body.Sort 1) [] ∷ form (body.State 1) [] ∷ form (body.Unary unary.Not 1 2) [] ∷ form (body.Init 1 2 3) [] ∷ [])
 
--- the state 4, of a bit or of an array of bits, begins with the constant 3 and stays as it is
-abbrev pub held : ℕ → Body → List FullLine
-held s b = lines_numbered 1 (form (body.Sort 1) [] ∷ array_sort 1 1 ∷ form b [] ∷ form (body.State s) [] ∷ form (body.Init s 4 3) [] ∷ form (body.Next s 4 4) [] ∷ [])
+-- the state 4, of a word of so many bits or of an array of such words, begins with the constant 3 and stays as it is
+abbrev pub held : ℕ → ℕ → Body → List FullLine
+held n s b = lines_numbered 1 (form (body.Sort n) [] ∷ array_sort 1 1 ∷ form b [] ∷ form (body.State s) [] ∷ form (body.Init s 4 3) [] ∷ form (body.Next s 4 4) [] ∷ [])
 
 -- a line of fairness before others
 abbrev pub fair_before : List FullLine → List FullLine

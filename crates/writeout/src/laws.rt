@@ -1,5 +1,5 @@
 //! Worked rows of what is written how and what it needs, as functions with no code.
-ghost use Rattle.std.specs.Prelude.{◌≡◌, [], ◌∷◌};
+ghost use Rattle.std.specs.Prelude.{◌≡◌, [], ◌∷◌, negsuc};
 ghost use Rattle.btor2.specs.declared.item.Body.TheVariants as body;
 ghost use Rattle.full.specs.Worked.{memory, filled};
 ghost use Rattle.writeout.specs.declared.fault.WriteFault.TheVariants as fault;
@@ -10,17 +10,22 @@ ghost use Rattle.writeout.specs.Faults.{NoneIsLive, IsLiveFault};
 ghost use Rattle.writeout.specs.Worked.{begun, begun_state, circular, held, fair_before};
 
 /// Worked rows: the array of the memory has no init line, and its state of words begins with an input. A state of words begins with a
-/// constant as it is, one of arrays with zeros or ones; with the word 1 in each cell it is written by its first word, and with an operand
-/// with a minus.
+/// constant as it is, one of arrays with zeros or ones, however these are said; with another word in each cell it is written by its
+/// first word, and with an operand with a minus.
 #[tactic(auto, unfolding(crate::specs::Ways::way_of))]
 pub fn worked_ways()
     ensures open { way_of memory 6 ≡ way.Open }
     ensures input { way_of memory 9 ≡ way.First }
     ensures minus { way_of filled 5 ≡ way.First }
-    ensures words { way_of (held 1 (body.Zero 1)) 4 ≡ way.Constant }
-    ensures zeros { way_of (held 2 (body.Zero 1)) 4 ≡ way.Zeros }
-    ensures ones { way_of (held 2 (body.Ones 1)) 4 ≡ way.Ones }
-    ensures one { way_of (held 2 (body.One 1)) 4 ≡ way.First }
+    ensures words { way_of (held 2 1 (body.Zero 1)) 4 ≡ way.Constant }
+    ensures zeros { way_of (held 2 2 (body.Zero 1)) 4 ≡ way.Zeros }
+    ensures ones { way_of (held 2 2 (body.Ones 1)) 4 ≡ way.Ones }
+    ensures one { way_of (held 2 2 (body.One 1)) 4 ≡ way.First }
+    ensures bit { way_of (held 1 2 (body.One 1)) 4 ≡ way.Ones }
+    ensures said_zeros { way_of (held 2 2 (body.Const 1 2 0)) 4 ≡ way.Zeros }
+    ensures said_ones { way_of (held 2 2 (body.Consth 1 1 3)) 4 ≡ way.Ones }
+    ensures negative { way_of (held 2 2 (body.Constd 1 (negsuc 0))) 4 ≡ way.Ones }
+    ensures other { way_of (held 2 2 (body.Const 1 2 2)) 4 ≡ way.First }
 {}
 
 /// Worked rows: a state needs the input that it begins with, which stands at place 2, and so stands behind it.

@@ -1,7 +1,7 @@
 //! The nodes of the lines of a model, in an order.
 ghost use Rattle.std.specs.Prelude.{◌≡◌, ◌<◌, ℕ, [], length, slice_get, Some, OnOk};
 ghost use Rattle.full.specs.Lines.{FullLine};
-ghost use Rattle.fullmodel.specs.Lines.{line_of, HasNoDigits};
+ghost use Rattle.fullmodel.specs.Lines.{line_of};
 ghost use Rattle.writeout.specs.Late.{LateWritten};
 ghost use Rattle.writeout.specs.LateLines.{StandsAt};
 ghost use Rattle.writeout.specs.Leaves.{LeavesWritten};
@@ -9,22 +9,12 @@ ghost use Rattle.writeout.specs.Needs.{IsLineOrder};
 ghost use Rattle.writeout.specs.Nodes.{NodesStand, NeedsDone, IsPutAt};
 ghost use Rattle.writeout.specs.Tables.{writing};
 
-use crate::known::know;
+use crate::known::{know, line_at};
 use crate::lines::line_node;
 use crate::tables::Tables;
 use cells::{ListMaker, Shortage};
 use fullmodel::{FullModel, Line};
 use std::alloc::Global;
-
-/// The line at a position.
-fn line_at(full: &FullModel, place: usize) -> &Line
-    requires { place < length full.now }
-    ensures at { slice_get full.now place ≡ Some (line_of result.now) }
-    ensures form { HasNoDigits result.now.says }
-{
-    know(full);
-    &full.lines()[place]
-}
 
 /// The id of the line at a position has 32 bits.
 fn know_id(full: &FullModel, place: usize, line: &Line)

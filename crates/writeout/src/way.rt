@@ -1,13 +1,19 @@
 //! How the init of a state is written.
-ghost use Rattle.std.specs.Prelude.{◌≡◌, option_map};
+ghost use Rattle.std.specs.Prelude.{◌≡◌, ℕ, ◌^◌, ◌<◌, ◌==◌, option_map, None};
+ghost use Rattle.base.specs.Operator.{ones};
+ghost use Rattle.wide.specs.Entries.{digits_sort};
+ghost use Rattle.wide.specs.Lines.{number_of_digits, constant_body};
 ghost use Rattle.full.specs.Agreement.{is_words};
-ghost use Rattle.fullmodel.specs.Lines.{says_of, sort_value};
-ghost use Rattle.writeout.specs.Ways.{kind_of_form, kind_of, kind_at, way_by, way_of};
+ghost use Rattle.fullmodel.specs.Lines.{says_of, sort_value, HasNoDigits};
+ghost use Rattle.writeout.specs.Ways.{kind_by, kind_of_form, kind_of, kind_at, NumberFits, way_by, way_of};
 
+use crate::known::{know, line_at};
+use crate::operands::width;
 use btor2::Body;
 use fullmodel::{FullModel, Says, Sort};
+use wide::Spelling;
 
-/// What the value of an init is: a constant of zeros, of ones, another constant, or none.
+/// What the value of an init is: a constant with the word 0, one with all bits 1, another constant, or none.
 #[derive(Clone, Copy, Debug, PartialEq, Eq)]
 pub(crate) enum Kind {
     Zero,
@@ -27,27 +33,72 @@ pub(crate) enum Way {
     First,
 }
 
-/// Which constant a form is.
-fn form_kind(body: &Body) -> Kind
-    ensures { result ≡ kind_of_form body.now }
+/// Whether digits of 64 bits, the lowest first, write in binary so many ones, or where these are none 0.
+fn are_ones(digits: &[u64], bits: u64) -> bool
+    ensures { result ≡ (number_of_digits digits.now == ones bits) }
+{
+    let mut left = bits;
+    for digit in digits {
+        let part = left.min(64);
+        if u128::from(*digit) + 1 != 1 << part {
+            return false;
+        }
+        left -= part;
+    }
+    left == 0
+}
+
+/// Which constant it is, by whether its word is 0, and whether all its bits are 1.
+fn kind_by(zero: bool, ones: bool) -> Kind
+    ensures { result ≡ kind_by zero ones }
+{
+    match (zero, ones) {
+        (true, _) => Kind::Zero,
+        (false, true) => Kind::Ones,
+        (false, false) => Kind::Other,
+    }
+}
+
+/// Which constant digits of a width are: behind a minus, those of 1 are all ones.
+#[tactic(auto, using(crate::proofs::DigitLemmas::digits_by, crate::proofs::DigitLemmas::negative_digits))]
+fn digits_kind(spelling: Spelling, number: &[u64], width: u64) -> Kind
+    requires { number_of_digits number.now < 2 ^ width }
+    ensures { (s count : ℕ) → result ≡ kind_of_form width (constant_body spelling s count (number_of_digits number.now)) }
+{
+    match spelling {
+        Spelling::Negative => kind_by(are_ones(number, 0), are_ones(number, 1)),
+        Spelling::Binary | Spelling::Decimal | Spelling::Hexadecimal => {
+            kind_by(are_ones(number, 0), are_ones(number, width))
+        }
+    }
+}
+
+/// Which constant a form without digits is, of a width.
+fn form_kind(body: &Body, width: u64) -> Kind
+    requires { digits_sort body.now ≡ None }
+    ensures { result ≡ kind_of_form width body.now }
 {
     match body {
         Body::Zero { .. } => Kind::Zero,
-        Body::Ones { .. } => Kind::Ones,
-        Body::One { .. } | Body::Const { .. } | Body::Constd { .. } | Body::Consth { .. } => {
-            Kind::Other
-        }
+        Body::One { .. } => kind_by(false, width == 1),
+        Body::Ones { .. } => kind_by(width == 0, true),
         _ => Kind::Neither,
     }
 }
 
-/// Which constant a line is.
-fn says_kind(says: &Says) -> Kind
-    ensures { result ≡ kind_of (says_of says.now) }
+/// Which constant a line of a width is.
+fn says_kind(says: &Says, width: u64) -> Kind
+    requires form { HasNoDigits says.now }
+    requires fits { NumberFits width (says_of says.now) }
+    ensures { result ≡ kind_of width (says_of says.now) }
 {
     match says {
-        Says::Form { body, .. } => form_kind(body),
-        Says::Constant { .. } => Kind::Other,
+        Says::Form { body, .. } => form_kind(body, width),
+        Says::Constant {
+            spelling,
+            number,
+            ..
+        } => digits_kind(*spelling, number.as_slice(), width),
         _ => Kind::Neither,
     }
 }
@@ -56,9 +107,10 @@ fn says_kind(says: &Says) -> Kind
 fn kind_at(full: &FullModel, id: u32) -> Kind
     ensures { result ≡ kind_at full.now id }
 {
+    know(full);
     match full.position(id) {
         None => Kind::Neither,
-        Some(place) => says_kind(&full.lines()[place].says),
+        Some(place) => says_kind(&line_at(full, place).says, width(full, id)),
     }
 }
 
