@@ -1,24 +1,24 @@
 -- A list in which each cell of an array has a leaf has a leaf for each word by which a value is told.
-use Rattle.std.proofs.Common.{◌≡◌, ℕ, zero, suc, ◌+◌, ◌*◌, ◌/◌, ◌<◌, Bool, true, false, cond, ◌&&◌, ◌||◌, List, [], ◌∷◌, ◌++◌, map, flat_map, filter, length, replicate, Option, Some, None, IfSome, is_some, unwrap_or, refl, sym, ap, ap₂, subst, append-nil, append_assoc, ◌∙◌, ◌≤◌, ⊎_elim, lit<, arith}
+use Rattle.std.proofs.Common.{◌≡◌, ℕ, zero, suc, ◌+◌, ◌*◌, ◌/◌, ◌<◌, Bool, true, false, cond, ◌&&◌, ◌||◌, List, [], ◌∷◌, ◌++◌, map, flat_map, filter, length, replicate, Option, Some, None, IfSome, unwrap_or, refl, sym, ap, ap₂, subst, append-nil, append_assoc, ◌∙◌, ◌≤◌, arith}
 use Rattle.std.specs.List.{AllByRecursion, AllZip}
 use Rattle.std.proofs.lemmas.Bool.{true≢false}
-use Rattle.std.proofs.lemmas.List.{length-append, length-map}
+use Rattle.std.proofs.lemmas.List.{length-map}
 use Rattle.std.proofs.Math.Nat.{mul-div_cancel}
 use Rattle.btor2.specs.declared.item.Item.{Item}
 use Rattle.btor2.specs.declared.item.Body.{Body}
 use Rattle.btor2.specs.declared.item.Body.TheVariants as body
-use Rattle.btor2.specs.Items.{find_item, is_input, is_state, is_free, is_carried_state, names_state, init_word}
+use Rattle.btor2.specs.Items.{find_item, is_input, is_state, is_free, is_carried_state, names_state}
 use Rattle.btor2.specs.Trace.{bits_of}
 use Rattle.btor2.proofs.IdLemmas.{state_item}
 use Rattle.btor2.proofs.ModelLemmas.{IsIn-from_find}
 use Rattle.wide.specs.WideModels.{greatest_width, IsWideModel}
-use Rattle.full.specs.Lines.{Says, form, FullLine, Sort, words, arrays, find_line, is_form, lines_of, full_ids, sort_of, size_of, init_of}
-use Rattle.full.specs.WrittenOut.{Places, one_id, LeafIsWritten, IsFirstAlone, IsAsItIs, IsByFirstWord, InitIsWritten, IsWrittenOut}
+use Rattle.full.specs.Lines.{Says, form, FullLine, Sort, words, arrays, find_line, is_form, lines_of, full_ids, sort_of, size_of}
+use Rattle.full.specs.WrittenOut.{Places, one_id, LeafIsWritten, IsFirstAlone, IsWrittenOut}
 use Rattle.full.proofs.ListLemmas.{all_with, all_both, all_at}
-use Rattle.full.proofs.FullLookUps.{each_found, init_said}
+use Rattle.full.proofs.FullLookUps.{each_found}
 use Rattle.full.proofs.NextsLemmas.{each_has_next as each_has_next_line}
-use Rattle.full.proofs.PlaceLemmas.{first_stands, stands_as_state, first_is_carried}
-use Rattle.fit.specs.Fitting.{Layout, is_given, pieces_width, HasWidthOfPieces, IsFittingOf}
+use Rattle.full.proofs.PlaceLemmas.{stands_as_state, first_is_carried}
+use Rattle.fit.specs.Fitting.{Layout, is_given, HasWidthOfPieces, IsFittingOf}
 use Rattle.fit.proofs.ListLemmas.{of_ids}
 use Rattle.celled.specs.Celled.{HasCells, IsCelledOf}
 use Rattle.celled.specs.Written.{cell_bits, cells_among, leaf_cells}
@@ -26,13 +26,7 @@ use Rattle.celled.proofs.WrittenLemmas.{input_at, state_at, own_width}
 use Rattle.spread.proofs.WidthLemmas.{HaveBits}
 use Rattle.spread.proofs.WideShapeLemmas.{states_have_sort, inputs_have_sort, leaves_range}
 use Rattle.btor2.specs.Lists.{first_init_without_next}
-use Rattle.btor2.proofs.AppendLemmas.{some_of}
-use Rattle.std.proofs.lemmas.Option.{none-some}
-use Rattle.witness.specs.Texts.{shape_of}
-use Rattle.fulljudge.specs.Shapes.{Leaf, leaf_of, full_shape, word_count, word_width, word_shape}
-use Rattle.fulljudge.specs.Kept.{words_in}
-use Rattle.fulljudge.specs.Judged.{HasNoFirst}
-use Rattle.fulljudge.proofs.ShapeLemmas.{state_widths}
+use Rattle.fulljudge.specs.Shapes.{Leaf, leaf_of, word_count, word_width}
 use Rattle.fulljudge.specs.Cells.{HasWords, HasWordsOf}
 use Rattle.fulljudge.proofs.FirstLemmas.{total_width}
 use Rattle.fulljudge.proofs.DifferLemmas.{carried_pieces}
@@ -222,33 +216,3 @@ module _ (full : List FullLine) (p : Places) (wide celled : List Item) (h : IsWr
   each_has_next = k.nexts (each_has_next_line full p wide h)
 
   -- a state that is 1 in the first frame alone has a word of its own
-  first_has_word : (w : ℕ) → p.first ≡ Some w → 0 < length (flat_map k.layout (one_id p.first))
-  first_has_word w e =
-      let alone = first_stands full p wide w h e in
-      let names = stands_as_state wide w alone.state.0 alone.state.1 in
-      let pieces : HasWidthOfPieces wide k.layout celled w = state_width wide celled k.layout k.fits w names in
-      subst (λ (o : Option ℕ). 0 < length (flat_map k.layout (one_id o))) (sym e) (some_piece (k.layout w) [] (subst (λ (n : ℕ). 0 < n) (sym (sym pieces ∙ alone.bit)) (lit< tt)))
-    where
-      some_piece : (ps more : List ℕ) → 0 < pieces_width (bits_of celled) ps → 0 < length (ps ++ more)
-      some_piece [] more below = absurd (omega (arith, below))
-      some_piece (q ∷ ps) more below = omega arith
-
-  no_first : HasNoFirst full celled → p.first ≡ None
-  unfolding has_words
-  no_first as_many = by p.first refl
-    where
-      words : length (shape_of celled).states ≡ words_in (full_shape full).states + length (flat_map k.layout (one_id p.first))
-      words =
-          ap length (state_widths full p wide k.layout celled h has_words k.fits.well_formed)
-          ∙ length-append (word_shape (full_shape full)).states (map (bits_of celled) (flat_map k.layout (one_id p.first)))
-          ∙ ap₂ (λ (a b : ℕ). a + b) refl (length-map (flat_map k.layout (one_id p.first)) (bits_of celled))
-
-      by : (o : Option ℕ) → p.first ≡ o → p.first ≡ None
-      by None e = e
-      by (Some w) e = absurd (omega (arith, first_has_word w e, words, as_many))
-
-  pub constants_begin : HasNoFirst full celled → (id : ℕ) → is_some (init_of full id) ≡ true → is_some (init_word wide (p.leaf id)) ≡ true
-  constants_begin as_many id some =
-      let o = some_of (init_of full id) some in
-      ⊎_elim (λ (same : IsAsItIs full p wide id o.0). ap is_some same.begins) (λ (choice : IsByFirstWord full p wide id o.0). absurd (none-some choice.first (sym (no_first as_many) ∙ choice.is_first)))
-      (init_said (InitIsWritten full p wide) full id o.0 h.inits o.1)

@@ -1,44 +1,35 @@
 -- The words of states in the first frame, by the places of their pieces.
-use Rattle.std.proofs.Common.{◌≡◌, ℕ, zero, suc, ◌+◌, ◌*◌, ◌^◌, ◌<◌, ◌≤◌, Bool, true, false, cond, List, [], ◌∷◌, ◌++◌, map, length, slice_get, Option, Some, None, is_some, unwrap_or, option_map, option_and_then, flat_map, eqb-true, eq-eqb, ◌==◌, inl, inr, refl, sym, ap, subst, ◌∙◌, arith}
+use Rattle.std.proofs.Common.{◌≡◌, ℕ, ◌+◌, ◌*◌, ◌^◌, ◌<◌, Bool, true, false, List, [], ◌∷◌, ◌++◌, map, length, slice_get, Option, Some, None, is_some, option_and_then, eqb-true, eq-eqb, ◌==◌, inl, inr, refl, sym, ap, ◌∙◌, arith}
 use Rattle.std.specs.List.{AllByRecursion, AllZip}
 use Rattle.std.proofs.lemmas.Bool.{true≢false, cases_Bool, false_from_ne_true}
-use Rattle.std.proofs.lemmas.List.{length-append, length-replicate}
-use Rattle.std.proofs.lemmas.Option.{none-some, same_Some}
+use Rattle.std.proofs.lemmas.Option.{same_Some}
 use Rattle.btor2.specs.declared.item.Item.{Item}
-use Rattle.btor2.specs.declared.item.Body.{Body}
 use Rattle.btor2.specs.Items.{find_item, is_input, is_state, node_width, width_of_body, init_value, init_word}
 use Rattle.base.specs.Word.{bit}
-use Rattle.btor2.specs.Reachability.{model_shows}
-use Rattle.btor2.specs.Trace.{Frame, bits_of, state_word, IsFrame, IsTrace, SameFrame, IsInput, IsState}
-use Rattle.btor2.proofs.StateWords.{state_has_word}
+use Rattle.btor2.specs.Trace.{Frame, bits_of, IsFrame, SameFrame, IsInput, IsState}
 use Rattle.wide.specs.WideModels.{greatest_width, IsWideModel}
-use Rattle.full.specs.Lines.{FullLine, Sort, words, arrays, Operand, sort_size, is_form, lines_of, find_line, sort_of, width_of, full_ids, init_of}
-use Rattle.full.specs.Agreement.{names_full_state}
-use Rattle.full.specs.WrittenOut.{Places, read_by, StateIsWritten, InitIsWritten, IsWrittenOut}
-use Rattle.full.proofs.DownLemmas.{state_below}
-use Rattle.full.proofs.FullLookUps.{each_found, init_said}
-use Rattle.full.proofs.PlaceLemmas.{placed}
+use Rattle.full.specs.Lines.{FullLine, Sort, words, Operand, init_of}
+use Rattle.full.specs.WrittenOut.{Places, read_by, InitIsWritten, IsWrittenOut}
+use Rattle.full.proofs.FullLookUps.{init_said}
 use Rattle.full.proofs.PlainLaw.{wide_words_fit}
-use Rattle.full.proofs.UpLemmas.{full_frame}
 use Rattle.full.proofs.WideLemmas.{found_by_id}
 use Rattle.fit.specs.Fitting.{Layout, joined, given_ids, carried_ids, ids_of}
 use Rattle.fit.proofs.FrameLemmas.{frame_by_leaves, frame_same}
-use Rattle.fit.proofs.LawLemmas.{wide_frame, trace_above}
+use Rattle.fit.proofs.LawLemmas.{wide_frame}
 use Rattle.fit.proofs.ListLemmas.{AreDistinct}
 use Rattle.celled.specs.Whole.{IsWhole}
 use Rattle.fitting.specs.Laid.{HasPlace, IsLaid}
 use Rattle.fitting.specs.Models.{IsFit}
 use Rattle.witness.specs.ClosedWords.{word_at}
 use Rattle.witness.specs.Judgements.{FrameWords, given_words}
-use Rattle.fulljudge.specs.Shapes.{Leaf, leaf_of, leaves_of, word_count, word_width, word_widths, first_index}
+use Rattle.fulljudge.specs.Shapes.{Leaf, leaves_of, word_count, word_width, first_index}
 use Rattle.fulljudge.specs.Kept.{words_in}
 use Rattle.fulljudge.specs.Told.{told, DiffersAt}
 use Rattle.fulljudge.specs.Cells.{HasWordsOf}
 use Rattle.fulljudge.specs.Compared.{StateWords, Flag, IsToldOtherwise, DiffersFirst, IsFound}
 use Rattle.fulljudge.specs.Judged.{HasStateWords}
-use Rattle.fulljudge.proofs.CelledLemmas.{by_part, open_given}
-use Rattle.fulljudge.proofs.JudgedLemmas.{all_get, at_first}
-use Rattle.fulljudge.proofs.RunLemmas.{states_named}
+use Rattle.fulljudge.proofs.CelledLemmas.{by_part}
+use Rattle.fulljudge.proofs.JudgedLemmas.{all_get}
 use Rattle.fulljudge.proofs.DigitLemmas.{bit_is}
 use Rattle.fulljudge.proofs.OtherwiseLemmas.{get_below, IsRead, none_otherwise, otherwise_differs, same_word}
 use Rattle.fulljudge.proofs.ToldLemmas.{WordsFit}

@@ -1,10 +1,10 @@
 //! Laws of witnesses over models of the whole language, as functions with no code.
-ghost use Rattle.std.specs.Prelude.{◌≡◌, ℕ, true, List, [], ◌∷◌, Option, None, codes, is_some, map};
+ghost use Rattle.std.specs.Prelude.{◌≡◌, ℕ, List, [], ◌∷◌, Option, None, codes, map};
 ghost use Rattle.btor2.specs.declared.item.Item.{Item};
-ghost use Rattle.btor2.specs.Items.{init_word, is_state};
+ghost use Rattle.btor2.specs.Items.{is_state};
 ghost use Rattle.btor2.specs.Lists.{first_init_without_next};
 ghost use Rattle.wide.specs.WideModels.{greatest_width, IsWideModel};
-ghost use Rattle.full.specs.Lines.{FullLine, words, arrays, init_of};
+ghost use Rattle.full.specs.Lines.{FullLine, words, arrays};
 ghost use Rattle.celled.specs.Written.{IsWrittenInCells};
 ghost use Rattle.full.specs.WrittenOut.{Places, IsWrittenOut};
 ghost use Rattle.fit.specs.Fitting.{Layout};
@@ -15,7 +15,6 @@ ghost use Rattle.fulljudge.specs.Lines.{word_line, words_text};
 ghost use Rattle.fulljudge.specs.Judgements.{judged_by, JudgesFull};
 ghost use Rattle.fulljudge.specs.Written.{ComparesText};
 ghost use Rattle.fulljudge.specs.Cells.{HasWordsOf, CanBeCounted};
-ghost use Rattle.fulljudge.specs.Judged.{HasNoFirst};
 ghost use Rattle.fulljudge.specs.Told.{told};
 ghost use Rattle.fulljudge.specs.Worked.{two_arrays};
 
@@ -29,15 +28,11 @@ pub fn texts_are_judged_by_words()
         → JudgesFull full text (judged_by (map (λ (l : Leaf). l.sort) (leaves_of is_state full)) d j) }
 {}
 
-/// A law: a list in which each cell of an array has a leaf has a leaf for each word by which a value is told. Where it has as many
-/// states as there are words of states, each state with an init line begins with a constant. None of its states has an init line and
-/// no next line.
+/// A law: a list in which each cell of an array has a leaf has a leaf for each word by which a value is told. None of its states has
+/// an init line and no next line.
 pub fn cells_are_words()
     ensures words { (full : List FullLine) (celled : List Item) (w : IsWrittenInCells full celled)
         → HasWordsOf full w.places w.wide w.cells.layout celled }
-    ensures constants { (full : List FullLine) (celled : List Item) (w : IsWrittenInCells full celled)
-        → HasNoFirst full celled → (id : ℕ) → is_some (init_of full id) ≡ true
-        → is_some (init_word w.wide (w.places.leaf id)) ≡ true }
     ensures nexts { (full : List FullLine) (celled : List Item) → IsWrittenInCells full celled
         → first_init_without_next celled celled ≡ None }
     ensures model { (full : List FullLine) (celled : List Item) → IsWrittenInCells full celled

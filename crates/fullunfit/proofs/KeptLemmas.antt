@@ -1,5 +1,5 @@
 -- What is judged over the fitted model is judged over the model of the whole language of the text that says the same.
-use Rattle.std.proofs.Common.{◌≡◌, ℕ, ◌<◌, ◌≤◌, ◌^◌, ◌⊎◌, Bool, true, false, List, [], ◌∷◌, Option, Some, None, IfSome, Result, Ok, length, map, refl, sym, ap, ap₂, subst, ◌∙◌, inl, inr, arith}
+use Rattle.std.proofs.Common.{◌≡◌, ℕ, ◌<◌, ◌≤◌, ◌^◌, ◌⊎◌, Bool, true, List, [], ◌∷◌, Option, Some, None, IfSome, Ok, length, map, refl, sym, ap, ap₂, subst, ◌∙◌, inl, inr, arith}
 use Rattle.std.proofs.lemmas.Bool.{cases_lt}
 use Rattle.std.proofs.lemmas.List.Elements.{All-nil}
 use Rattle.base.specs.Lines.{IsLine, text_of_lines, whole_lines}
@@ -14,9 +14,9 @@ use Rattle.full.specs.WrittenOut.{Places}
 use Rattle.witness.specs.declared.judgement.Judgement.{Judgement}
 use Rattle.witness.specs.declared.judgement.Judgement.TheVariants as judgement
 use Rattle.witness.specs.Texts.{Shape, Parts, Witness, AreFrames, IsWitness, Says, is_comment, is_free_index, most_lines, shape_of, witness_lines}
-use Rattle.witness.specs.Readings.{Fault, text_read}
+use Rattle.witness.specs.Readings.{text_read}
 use Rattle.witness.specs.Admits.{Read, read_text, witness_of, word_reader}
-use Rattle.witness.specs.Judgements.{frame_words, words_of, given, initial_part, initial_words, first_different, makes_no_claim, JudgesWords, JudgesAs, Judges}
+use Rattle.witness.specs.Judgements.{frame_words, words_of, given, initial_part, initial_words, first_different, makes_no_claim, JudgesWords, Judges}
 use Rattle.witness.proofs.FitLemmas.{shape_is_small}
 use Rattle.witness.proofs.JudgedLemmas.{read_judged, judged_says}
 use Rattle.witness.proofs.ReadLemmas.{IsSmall, all_read, says_read}
@@ -28,7 +28,7 @@ use Rattle.unfit.specs.Joined.{Names, Wide, Lined, join_witness}
 use Rattle.unfit.specs.Unfitted.{IsOfWitness}
 use Rattle.unfit.proofs.KeptLemmas.{makes_claim, small_shape, read_of_witness, written_with, written_few, written_valid}
 use Rattle.unfit.proofs.WitnessLemmas.{joined_alike}
-use Rattle.fulljudge.specs.Shapes.{FullShape, Leaf, leaves_of, full_shape, value_of_word, word_shape}
+use Rattle.fulljudge.specs.Shapes.{FullShape, full_shape, value_of_word, word_shape}
 use Rattle.fulljudge.specs.Compared.{StateWords}
 use Rattle.fulljudge.specs.Judged.{HasNoFirst, IsJudgeable}
 use Rattle.fulljudge.specs.Kept.{words_in}

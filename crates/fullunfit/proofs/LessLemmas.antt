@@ -1,13 +1,13 @@
 -- A witness without the words that are not told is one, and says less.
-use Rattle.std.proofs.Common.{◌≡◌, ℕ, zero, suc, ◌+◌, ◌<◌, ◌≤◌, ◌^◌, ◌==◌, ◌||◌, Bool, true, false, cond, not, nat_eq, eqb-true, List, [], ◌∷◌, ◌++◌, filter, map, length, get_or, Option, Some, None, IfSome, All, find, option_map, unwrap_or, decimal, codes, refl, sym, ap, ap₂, subst, ◌∙◌, arith}
+use Rattle.std.proofs.Common.{◌≡◌, ℕ, zero, suc, ◌+◌, ◌<◌, ◌≤◌, ◌^◌, ◌==◌, Bool, true, false, cond, not, nat_eq, eqb-true, List, [], ◌∷◌, ◌++◌, filter, map, length, get_or, Option, Some, None, IfSome, All, find, option_map, unwrap_or, decimal, codes, refl, sym, ap, ap₂, subst, ◌∙◌, arith}
 use Rattle.std.specs.List.{AllByRecursion, list_any}
 use Rattle.std.proofs.lemmas.Bool.{true≢false, and_parts, or_parts}
 use Rattle.std.proofs.lemmas.List.{length-append, length-map}
-use Rattle.std.proofs.lemmas.List.Elements.{All-filter, All-from_recursion, recursion_from_All}
+use Rattle.std.proofs.lemmas.List.Elements.{All-filter, recursion_from_All}
 use Rattle.full.specs.Lines.{Sort}
 use Rattle.fit.proofs.ListLemmas.{all_with}
 use Rattle.witness.specs.Texts.{Shape, Assignment, IsAssignment, IsPart, IsFreePart, AreParts, AreFrames, IsWitness, Parts, Witness, are_distinct, is_free_index, assignment_line, states_lines, frame_lines, witness_lines}
-use Rattle.witness.specs.Judgements.{FrameWords, pairs_of, frame_words, given}
+use Rattle.witness.specs.Judgements.{pairs_of, frame_words, given}
 use Rattle.unfit.specs.Joined.{Fronts, Lined, is_told}
 use Rattle.fulljudge.specs.Shapes.{value_of_word}
 use Rattle.fulljudge.specs.Compared.{has_other_node}

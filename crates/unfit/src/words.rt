@@ -1,5 +1,5 @@
 //! The lines of words by their pieces.
-ghost use Rattle.std.specs.Prelude.{◌≡◌, ◌+◌, ◌≤◌, ◌<◌, ◌∷◌, ◌++◌, [], Option, length, decimal};
+ghost use Rattle.std.specs.Prelude.{◌≡◌, ◌+◌, ◌≤◌, ◌<◌, ◌∷◌, ◌++◌, [], length, decimal};
 ghost use Rattle.base.specs.Writing.{WritesText};
 ghost use Rattle.witness.specs.Texts.{symbol_part};
 ghost use Rattle.unfit.specs.Joined.{front_at, is_told, name_at};

@@ -1,6 +1,6 @@
 //! Witnesses of models with words of any width, by the models of the profile that these are fitted into.
 
-ghost use Rattle.std.specs.Prelude.{◌≡◌, ℕ, List, IfOk, IfErr, OnOk, None, Some};
+ghost use Rattle.std.specs.Prelude.{◌≡◌, IfOk, IfErr, None, Some};
 ghost use Rattle.btor2.specs.Lists.{first_init_without_next};
 ghost use Rattle.fitting.specs.Models.{IsFit};
 ghost use Rattle.widetext.specs.Spelling.{StandsForWide};

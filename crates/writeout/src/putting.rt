@@ -1,5 +1,5 @@
 //! The nodes of the lines of a model, in an order.
-ghost use Rattle.std.specs.Prelude.{◌≡◌, ◌<◌, ℕ, [], length, slice_get, Some, OnOk};
+ghost use Rattle.std.specs.Prelude.{◌≡◌, ◌<◌, [], length, slice_get, Some, OnOk};
 ghost use Rattle.full.specs.Lines.{FullLine};
 ghost use Rattle.fullmodel.specs.Lines.{line_of};
 ghost use Rattle.writeout.specs.Late.{LateWritten};
