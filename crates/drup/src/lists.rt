@@ -101,6 +101,14 @@ impl Lists {
         self.lists.len_of(self.numbers[literal as usize])
     }
 
+    /// The numbers of a literal's list.
+    pub fn list(&self, literal: u32) -> &[u32]
+        requires { literal < length self.now }
+        ensures { result.now ≡ list_at self.now literal }
+    {
+        self.lists.list(self.numbers[literal as usize])
+    }
+
     /// The number at a place of a literal's list.
     pub fn at(&self, literal: u32, place: usize) -> u32
         requires inside { literal < length self.now }

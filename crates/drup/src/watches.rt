@@ -1,12 +1,12 @@
 //! Unit propagation by two watched literals: a clause is looked at only when a literal that it watches is negated. Watch
 //! 2k and watch 2k + 1 are those of clause k.
-ghost use Rattle.std.specs.Prelude.{◌≡◌, true, ◌≢◌, ◌+◌, ◌-◌, ◌<◌, ◌≤◌, [], All, length, Contains, IfOk, MatchOption, MatchResult, slice_index, slice_index_or};
+ghost use Rattle.std.specs.Prelude.{◌≡◌, true, ◌≢◌, ◌+◌, ◌-◌, ◌<◌, ◌≤◌, ◌↔◌, IsTrue, [], All, length, Contains, IfOk, MatchOption, MatchResult, slice_index, slice_index_or};
 ghost use Rattle.base.specs.Literal.{negation};
 ghost use Rattle.drup.specs.Marked.{IsConsistent, IsEven, set_of};
 ghost use Rattle.drup.specs.Growth.{GrowsMarked, IsOpen};
 ghost use Rattle.drup.specs.Lists.{list_at};
 ghost use Rattle.drup.specs.Propagation.{OthersNegated};
-ghost use Rattle.drup.specs.Watched.{Watches, Visited, Entered, WalkedTo, Propagated, Processed, Stays, IsWatched, Moved};
+ghost use Rattle.drup.specs.Watched.{Watches, IsPassed, ArePassed, Visited, Entered, WalkedTo, Propagated, Processed, Stays, IsWatched, Moved};
 
 use crate::clauses::Clauses;
 use crate::fault::ClauseFault;
@@ -162,6 +162,30 @@ fn enter(
     }
 }
 
+/// Whether a clause's other watched literal than that of a watch is marked.
+fn is_passed(watched: &[u32], watch: u32, trail: &Trail) -> bool
+    ensures { IsTrue result ↔ IsPassed watched.now watch trail.now }
+{
+    let other = negation(watch) as usize;
+    other < watched.len() && trail.marks(watched[other])
+}
+
+/// The first place of a list, from one on, whose watch is to be looked at, or the list's end: of each before it the other watched
+/// literal of its clause is marked.
+fn next_place(list: &[u32], watched: &[u32], place: usize, trail: &Trail) -> usize
+    requires { place ≤ length list.now }
+    ensures order { place ≤ result }
+    ensures within { result ≤ length list.now }
+    ensures passed { ArePassed list.now watched.now place result trail.now }
+{
+    for next in place..list.len() {
+        if !is_passed(watched, list[next], trail) {
+            return next;
+        }
+    }
+    list.len()
+}
+
 /// Looks at all clauses that watch a negated literal; whether one is falsified.
 fn walk(
     clauses: &Clauses,
@@ -185,12 +209,12 @@ fn walk(
         (λ met. WalkedTo clauses.now negated watched.old trail.old
         watched.new trail.new met) }
 {
-    let mut place = 0;
+    let mut place = next_place(lists.list(negated), watched, 0, trail);
     while place < lists.len_of(negated) {
         match enter(clauses, watched, lists, negated, place, trail) {
             Err(error) => return Err(error),
             Ok(None) => return Ok(true),
-            Ok(Some(next)) => place = next,
+            Ok(Some(next)) => place = next_place(lists.list(negated), watched, next, trail),
         }
     }
     Ok(false)
