@@ -1,6 +1,6 @@
 //! Unit propagation by two watched literals: a clause is looked at only when a literal that it watches is negated. Watch
 //! 2k and watch 2k + 1 are those of clause k.
-ghost use Rattle.std.specs.Prelude.{◌≡◌, true, ◌≢◌, ◌+◌, ◌-◌, ◌<◌, ◌≤◌, ◌↔◌, IsTrue, [], All, length, Contains, IfOk, MatchOption, MatchResult, slice_index, slice_index_or};
+ghost use Rattle.std.specs.Prelude.{◌≡◌, true, false, ◌≢◌, ◌+◌, ◌-◌, ◌<◌, ◌≤◌, ◌↔◌, IsTrue, [], All, length, Contains, IfOk, MatchOption, MatchResult, slice_index, slice_index_or};
 ghost use Rattle.base.specs.Literal.{negation};
 ghost use Rattle.drup.specs.Marked.{IsConsistent, IsEven, set_of};
 ghost use Rattle.drup.specs.Growth.{GrowsMarked, IsOpen};
@@ -50,7 +50,7 @@ fn open_again(clause: &[u32], k: usize, one: u32, lists: &mut Lists, trail: &Tra
     }
 }
 
-/// Looks at the clause of a number, one of whose watched literals is negated; `other` is the other one.
+/// Looks at the clause of a number, one of whose watched literals is negated; `other` is the other one, which is not marked.
 pub(crate) fn look(
     clauses: &Clauses,
     k: usize,
@@ -63,13 +63,11 @@ pub(crate) fn look(
     requires inside { All (All (λ l. l < length trail.old.marks)) clauses.now }
     requires consistent { IsConsistent trail.old }
     requires there { Contains (slice_index_or clauses.now k []) other }
+    requires fresh { set_of trail.old other ≡ false }
     ensures same { lists.new ≡ lists.old }
     ensures visited { Visited (slice_index_or clauses.now k []) other trail.old trail.new
         result }
 {
-    if trail.has(other) {
-        return Visit::Keep;
-    }
     match open_again(clauses.clause(k), k, other, lists, trail) {
         Some(literal) => Visit::Move(literal),
         None => {
@@ -119,7 +117,8 @@ fn move_watch(
     Ok(())
 }
 
-/// Looks at the clause at a place of a list; the next place to look at, or none if the clause is falsified.
+/// Looks at the clause at a place of a list, whose other watched literal is not marked; the next place to look at, or none if the
+/// clause is falsified.
 fn enter(
     clauses: &Clauses,
     watched: &mut [u32],
@@ -136,6 +135,8 @@ fn enter(
     requires negated { negated < length trail.old.marks }
     requires off { set_of trail.old (negation negated) ≡ true }
     requires there { place < length (list_at lists.old negated) }
+    requires fresh { ¬ IsPassed watched.old (slice_index (list_at lists.old negated) place)
+        trail.old }
     requires short { place < usize.MAX }
     ensures watched { IsWatched clauses.now watched.new lists.new
         (length trail.old.marks) }
@@ -177,6 +178,8 @@ fn next_place(list: &[u32], watched: &[u32], place: usize, trail: &Trail) -> usi
     ensures order { place ≤ result }
     ensures within { result ≤ length list.now }
     ensures passed { ArePassed list.now watched.now place result trail.now }
+    ensures stop { result < length list.now
+        → ¬ IsPassed watched.now (slice_index list.now result) trail.now }
 {
     for next in place..list.len() {
         if !is_passed(watched, list[next], trail) {
