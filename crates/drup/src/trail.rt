@@ -48,7 +48,7 @@ impl Trail {
     }
 
     /// Whether a number is that of a marked literal.
-    pub fn marks(&self, number: u32) -> bool
+    pub fn is_marked(&self, number: u32) -> bool
         ensures { result ≡ set_of self.now number }
     {
         (number as usize) < self.marks.len() && self.marks[number as usize]

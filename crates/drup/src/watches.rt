@@ -168,7 +168,7 @@ fn is_passed(watched: &[u32], watch: u32, trail: &Trail) -> bool
     ensures { IsTrue result ↔ IsPassed watched.now watch trail.now }
 {
     let other = negation(watch) as usize;
-    other < watched.len() && trail.marks(watched[other])
+    other < watched.len() && trail.is_marked(watched[other])
 }
 
 /// The first place of a list, from one on, whose watch is to be looked at, or the list's end: of each before it the other watched
