@@ -1,7 +1,6 @@
 use Rattle.std.proofs.Common.{◌≡◌, ◌≢◌, ◌+◌, ◌/◌, ◌<◌, ℕ, Bool, true, false, List, [], length, get_or, refl, ap, sym, subst, ◌∙◌, arith}
-use Rattle.std.specs.Prelude.{Contains, All}
+use Rattle.std.specs.Prelude.{Contains}
 use Rattle.base.specs.Literal.{negation}
-use Rattle.drup.specs.Propagation.{AllNegated}
 use Rattle.drup.specs.Marked.{Marked, set_of}
 use Rattle.drup.specs.Lists.{list_at}
 use Rattle.drup.specs.Watched.{Watches, Moved, AdvancesWatch, IsMet, clause_at}
