@@ -2,8 +2,7 @@
 use Rattle.std.proofs.Common.{◌≡◌, ℕ, zero, suc, ◌+◌, ◌-◌, ◌<◌, ◌≤◌, List, [], ◌∷◌, ◌++◌, length, get_or, drop, refl, ap, ap₂, ◌∙◌, arith, length-append}
 use Rattle.std.proofs.lemmas.List.{length-drop, length-take-le}
 use Rattle.std.specs.Prelude.{slice_range}
-use Rattle.drup.specs.Flat.{cut}
-use Rattle.drup.specs.ClauseLists.{AreEndsInTurn, literal_count}
+use Rattle.drup.specs.ClauseLists.{cut, AreEndsInTurn, literal_count}
 use Rattle.drup.proofs.FlatLemmas.{range_kept, range_last}
 
 pub length-cut_in_turn : (literals ends : List ℕ) (start : ℕ) → length (cut literals (start ∷ ends) ends) ≡ length ends

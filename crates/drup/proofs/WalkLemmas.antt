@@ -1,11 +1,11 @@
 -- Going through the list of a literal, and through a trail.
 use Rattle.std.proofs.Common.{◌≡◌, ◌≢◌, ℕ, ◌+◌, ◌*◌, ◌/◌, ◌<◌, ◌≤◌, Bool, true, false, List, [], inl, inr, length, get_or, ⊎_elim, refl, sym, ap, subst, ◌∙◌, arith}
-use Rattle.std.proofs.lemmas.Bool.{cases_eq, cases_Bool}
+use Rattle.std.proofs.lemmas.Bool.{cases_eq, cases_lt, cases_Bool}
 use Rattle.base.specs.Literal.{negation}
 use Rattle.drup.specs.Marked.{Marked, set_of, IsConsistent, IsSettled, IsKept, IsPrefix, AreMarked, ArePlaced}
 use Rattle.drup.specs.Growth.{GrowsMarked, AreSettled, AssumesAll, Extends, Finished}
 use Rattle.drup.specs.Lists.{list_at}
-use Rattle.drup.specs.Watched.{clause_at, IsWatched, IsMet, Processed, Walks, AdvancesWatch, Walked, AreMet, Propagated, Stays, UnitsMet}
+use Rattle.drup.specs.Watched.{clause_at, IsWatched, IsMet, ArePassed, Processed, Walks, AdvancesWatch, Walked, AreMet, Propagated, Stays, UnitsMet}
 use Rattle.drup.specs.Flat.{standing}
 use Rattle.drup.proofs.StandingLemmas.{place_inside}
 use Rattle.base.proofs.LiteralLemmas.{negation-negation, half-negation}
@@ -72,6 +72,25 @@ Walking-more clauses limit negated watched0 old watched lists now place watched'
   ahead = a.ahead s.ahead;
   processed = λ head room done. a.processed head (omega (arith, s.grows.longer)) (s.processed head room done);
   stays = Stays-more watched0 watched watched' old now s.stays t s.grows.kept;
+}
+
+-- watches whose clauses' other watches are of marked literals are passed over
+pub Walking-pass : (clauses : List (List ℕ)) (limit negated : ℕ) (watched0 : List ℕ) (old : Marked) (watched : List ℕ) (lists : List (List ℕ)) (now : Marked) (place next : ℕ) → Walking clauses limit negated watched0 old watched lists now place → negated < limit → ArePassed (list_at lists negated) watched place next now → Walking clauses limit negated watched0 old watched lists now next
+Walking-pass clauses limit negated watched0 old watched lists now place next s low passed = record {
+  is_watched = s.is_watched;
+  grows = s.grows;
+  ahead = λ n h is.
+      let own = other_inside clauses watched lists limit n s.is_watched h (omega (arith, is, low)) in
+      ⊎_elim
+      (λ (met : IsMet (clause_at clauses n) now). inl met)
+      (λ (far : (j : ℕ) × (place ≤ j) × (j < length (list_at lists negated)) × (get_or (list_at lists negated) j 0 ≡ n)).
+      ⊎_elim
+      (λ (before : far.0 < next). inl (get_or watched (negation n) 0, own.4, ap (λ (i : ℕ). set_of now (get_or watched (negation i) 0)) (sym far.3) ∙ (passed far.0 far.1 before).1))
+      (λ (behind : next ≤ far.0). inr (far.0, behind, far.2, far.3))
+      (cases_lt far.0 next))
+      (s.ahead n h is);
+  processed = s.processed;
+  stays = s.stays;
 }
 
 pub Walking-end : (clauses : List (List ℕ)) (limit negated : ℕ) (watched0 : List ℕ) (old : Marked) (watched : List ℕ) (lists : List (List ℕ)) (now : Marked) (place : ℕ) → Walking clauses limit negated watched0 old watched lists now place → length (list_at lists negated) ≤ place → Walked clauses negated watched0 old watched now

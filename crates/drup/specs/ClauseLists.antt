@@ -1,7 +1,12 @@
 -- How clauses are kept that stay: the literals of all of them in one list, and where each clause ends, where the next one starts.
-use Rattle.std.specs.Prelude.{◌≡◌, ℕ, ◌+◌, ◌≤◌, List, [], ◌∷◌, length, slice_index}
+use Rattle.std.specs.Prelude.{◌≡◌, ℕ, ◌+◌, ◌≤◌, List, [], ◌∷◌, length, slice_index, slice_range}
 use Rattle.drup.specs.declared.clause_list.ClauseList.TheInside.{Inside}
-use Rattle.drup.specs.Flat.{cut}
+
+-- the clauses that start and end at these places
+abbrev pub cut : List ℕ → List ℕ → List ℕ → List (List ℕ)
+cut literals [] ends = []
+cut literals (s ∷ ss) [] = []
+cut literals (s ∷ ss) (e ∷ es) = slice_range literals s e ∷ cut literals ss es
 
 -- where the clause at a place starts
 abbrev pub start_at : List ℕ → ℕ → ℕ

@@ -1,5 +1,5 @@
 -- What a step of unit propagation does to a set of marked literals.
-use Rattle.std.specs.Prelude.{◌≡◌, ℕ, ◌<◌, ◌≤◌, Bool, true, false, List, [], length, Contains, slice_index, slice_index_or}
+use Rattle.std.specs.Prelude.{◌≡◌, ◌≢◌, ℕ, ◌<◌, ◌≤◌, Bool, true, false, List, [], length, Contains, slice_index, slice_index_or}
 use Rattle.base.specs.Literal.{negation}
 use Rattle.drup.specs.Propagation.{Literals, AllNegated}
 use Rattle.drup.specs.Marked.{Marked, set_of, IsConsistent, IsSettled, IsWithin, IsKept, IsPrefix, FollowsBy, Follows}
@@ -7,6 +7,14 @@ use Rattle.drup.specs.Marked.{Marked, set_of, IsConsistent, IsSettled, IsWithin,
 -- a literal of a clause that is not negated
 abbrev pub IsOpen : List ℕ → ℕ → Literals → Type 0
 IsOpen clause l s = Contains clause l × (s (negation l) ≡ false)
+
+-- the place of a literal of a clause, other than one, that is not negated
+abbrev pub IsOpenPlace : List ℕ → ℕ → ℕ → Literals → Type 0
+IsOpenPlace clause place one s = (place < length clause) × (s (negation (slice_index clause place)) ≡ false) × (slice_index clause place ≢ one)
+
+-- each literal of a stretch of a clause, other than one, is negated
+abbrev pub StretchNegated : List ℕ → ℕ → ℕ → ℕ → Literals → Type 0
+StretchNegated clause start end one s = (i : ℕ) → start ≤ i → i < end → slice_index clause i ≢ one → s (negation (slice_index clause i)) ≡ true
 
 -- a set of marked literals has grown: by what follows, within its limit, and consistently
 pub record GrowsMarked (clauses : List (List ℕ)) (old new : Marked) : Type 0 where

@@ -51,6 +51,14 @@ IsAhead clauses watched lists negated place m n =
 abbrev pub Walks : List (List ℕ) → List ℕ → List (List ℕ) → ℕ → ℕ → Marked → Type 0
 Walks clauses watched lists negated place m = (n : ℕ) → n < length watched → IsAhead clauses watched lists negated place m n
 
+-- the other watch of a watch's clause is of a marked literal
+abbrev pub IsPassed : List ℕ → ℕ → Marked → Type 0
+IsPassed watched n m = (negation n < length watched) × (set_of m (slice_index watched (negation n)) ≡ true)
+
+-- so it is with each watch of a stretch of a list
+abbrev pub ArePassed : List ℕ → List ℕ → ℕ → ℕ → Marked → Type 0
+ArePassed list watched place next m = (j : ℕ) → place ≤ j → j < next → IsPassed watched (slice_index list j) m
+
 -- a watch was moved from a place of one list to the end of another
 pub record Moved (watched : List ℕ) (lists : List (List ℕ)) (negated place literal : ℕ) (watched' : List ℕ) (lists' : List (List ℕ)) : Type 0 where
   pub watch : watched' ≡ slice_set watched (slice_index (list_at lists negated) place) literal

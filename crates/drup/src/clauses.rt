@@ -5,13 +5,19 @@ use crate::fault::ClauseFault;
 use crate::passes::clause_between;
 use std::alloc::Global;
 
+/// Where a clause starts and ends in the list.
+#[derive(Clone, Copy)]
+pub(crate) struct Stretch {
+    start: usize,
+    end: usize,
+}
+
 /// Clauses by their places, which they keep: one that is taken away is left without literals.
 #[derive(Drop)]
 pub struct Clauses {
-    // the literals of all clauses, one clause after the other, and where each clause starts and ends
+    // the literals of all clauses, one clause after the other, and where each clause stands among them
     literals: Vec<u32>,
-    starts: Vec<usize>,
-    ends: Vec<usize>,
+    stretches: Vec<Stretch>,
 }
 
 impl std::marker::Model for Clauses {
@@ -32,8 +38,7 @@ impl Clauses {
     {
         Clauses {
             literals: Vec::new(alloc),
-            starts: Vec::new(alloc),
-            ends: Vec::new(alloc),
+            stretches: Vec::new(alloc),
         }
     }
 
@@ -41,7 +46,7 @@ impl Clauses {
     pub fn len(&self) -> usize
         ensures { result ≡ length self.now }
     {
-        self.ends.len()
+        self.stretches.len()
     }
 
     /// How many literals are held, with those of clauses that were taken away.
@@ -55,7 +60,8 @@ impl Clauses {
         requires { k < length self.now }
         ensures { result.now ≡ slice_index_or self.now k [] }
     {
-        clause_between(&self.literals, self.starts[k], self.ends[k])
+        let stretch = self.stretches[k];
+        clause_between(&self.literals, stretch.start, stretch.end)
     }
 
     /// Puts a clause behind the others.
@@ -63,15 +69,11 @@ impl Clauses {
         ensures ok { IfOk result (λ _. self.new ≡ self.old ++ clause.now ∷ []) }
         ensures err { OnErr result (self.new ≡ self.old) }
     {
-        self.starts.reserve(1)?;
-        self.ends.reserve(1)?;
+        self.stretches.reserve(1)?;
         let start = self.literals.len();
         self.literals.extend_from_slice(clause)?;
-        match self.starts.push(start) {
-            Ok(_) => {}
-            Err(_) => unreachable!(),
-        }
-        match self.ends.push(self.literals.len()) {
+        let end = self.literals.len();
+        match self.stretches.push(Stretch { start, end }) {
             Ok(_) => {}
             Err(_) => unreachable!(),
         }
@@ -83,6 +85,7 @@ impl Clauses {
         requires { k < length self.old }
         ensures { self.new ≡ slice_set self.old k [] }
     {
-        self.ends[k] = self.starts[k];
+        let start = self.stretches[k].start;
+        self.stretches[k] = Stretch { start, end: start };
     }
 }

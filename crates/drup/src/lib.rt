@@ -23,6 +23,7 @@ mod places;
 mod plain_lists;
 mod proof_judge;
 mod propagator;
+mod starts;
 mod step_judge;
 mod step_reader;
 mod sweep;

@@ -5,14 +5,17 @@ ghost use Rattle.drup.specs.Lists.{list_at, numbered, AreNumbered};
 
 use crate::fault::ClauseFault;
 use crate::plain_lists::PlainLists;
+use crate::starts::Starts;
 use std::alloc::Global;
 
-/// Lists of numbers, one for each literal below a limit. One that never had a number takes four bytes.
+/// Lists of numbers, one for each literal below a limit. One that never had a number takes four bytes. Beside them, and
+/// unseen, is noted where the search in each clause goes on.
 #[derive(Drop)]
 pub struct Lists {
     // the list of each literal, by its number; the first list, which stays empty, is of all that never had a number
     numbers: Vec<u32>,
     lists: PlainLists,
+    searches: Starts,
 }
 
 impl std::marker::Model for Lists {
@@ -61,7 +64,26 @@ impl Lists {
     {
         let numbers = vec![in alloc; 0; limit]?;
         let lists = PlainLists::new(alloc)?;
-        Ok(Lists { numbers, lists })
+        Ok(Lists {
+            numbers,
+            lists,
+            searches: Starts::new(alloc),
+        })
+    }
+
+    /// Where the search in a clause goes on, by its number.
+    pub fn start_of(&self, k: usize) -> usize {
+        self.searches.at(k)
+    }
+
+    /// Notes where the search in a clause goes on.
+    pub fn note_start(&mut self, k: usize, place: usize)
+        ensures { self.new ≡ self.old }
+    {
+        if place > u32::MAX as usize {
+            return;
+        }
+        self.searches.note(k, place as u32);
     }
 
     /// The limit that literals are below.
@@ -77,6 +99,14 @@ impl Lists {
         ensures { result ≡ length (list_at self.now literal) }
     {
         self.lists.len_of(self.numbers[literal as usize])
+    }
+
+    /// The numbers of a literal's list.
+    pub fn list(&self, literal: u32) -> &[u32]
+        requires { literal < length self.now }
+        ensures { result.now ≡ list_at self.now literal }
+    {
+        self.lists.list(self.numbers[literal as usize])
     }
 
     /// The number at a place of a literal's list.

@@ -60,6 +60,14 @@ impl PlainLists {
         self.lists[list as usize].len()
     }
 
+    /// A list's numbers.
+    pub(crate) fn list(&self, list: u32) -> &[u32]
+        requires { list < length self.now }
+        ensures { result.now ≡ list_at self.now list }
+    {
+        &self.lists[list as usize]
+    }
+
     /// The number at a place of a list.
     pub(crate) fn at(&self, list: u32, place: usize) -> u32
         requires inside { list < length self.now }

@@ -47,6 +47,13 @@ impl Trail {
         self.marks[literal as usize]
     }
 
+    /// Whether a number is that of a marked literal.
+    pub fn is_marked(&self, number: u32) -> bool
+        ensures { result ≡ set_of self.now number }
+    {
+        (number as usize) < self.marks.len() && self.marks[number as usize]
+    }
+
     /// How many literals are marked.
     pub fn len(&self) -> usize
         ensures count { result ≡ length self.now.order }

@@ -1,18 +1,22 @@
 //! Unit propagation by two watched literals: a clause is looked at only when a literal that it watches is negated. Watch
 //! 2k and watch 2k + 1 are those of clause k.
-ghost use Rattle.std.specs.Prelude.{◌≡◌, true, ◌≢◌, ◌+◌, ◌-◌, ◌<◌, ◌≤◌, All, length, Contains, IfOk, MatchResult, slice_index};
+ghost use Rattle.std.specs.Prelude.{◌≡◌, true, false, ◌≢◌, ◌+◌, ◌-◌, ◌<◌, ◌≤◌, ◌↔◌, IsTrue, [], All, length, Contains, IfOk, MatchOption, MatchResult, slice_index, slice_index_or};
 ghost use Rattle.base.specs.Literal.{negation};
 ghost use Rattle.drup.specs.Marked.{IsConsistent, IsEven, set_of};
-ghost use Rattle.drup.specs.Growth.{GrowsMarked};
+ghost use Rattle.drup.specs.Growth.{GrowsMarked, IsOpen};
 ghost use Rattle.drup.specs.Lists.{list_at};
-ghost use Rattle.drup.specs.Watched.{Watches, Visited, Entered, WalkedTo, Propagated, Processed, Stays, IsWatched, Moved};
+ghost use Rattle.drup.specs.Propagation.{OthersNegated};
+ghost use Rattle.drup.specs.Watched.{Watches, IsPassed, ArePassed, Visited, Entered, WalkedTo, Propagated, Processed, Stays, IsWatched, Moved};
 
 use crate::clauses::Clauses;
 use crate::fault::ClauseFault;
 use crate::lists::Lists;
 use crate::literal::negation;
-use crate::passes::open_other;
+use crate::passes::{open_other, open_place};
 use crate::trail::Trail;
+
+/// How many literals a clause has at most that is searched from its front each time.
+const SHORT: usize = 8;
 
 /// What is done with a watch of a clause.
 #[derive(Clone, Copy)]
@@ -25,18 +29,46 @@ pub(crate) enum Visit {
     Move(u32),
 }
 
-/// Looks at a clause, one of whose watched literals is negated; `other` is the other one.
-pub(crate) fn look(clause: &[u32], other: u32, trail: &mut Trail) -> Visit
-    requires even { IsEven trail.old }
-    requires inside { All (λ l. l < length trail.old.marks) clause.now }
-    requires consistent { IsConsistent trail.old }
-    requires there { Contains clause.now other }
-    ensures { Visited clause.now other trail.old trail.new result }
+/// A literal of a clause, which has a number, other than one, that is not negated. In a long clause the search goes on where
+/// the last one ended, so that what is negated in front is not gone over at each look.
+fn open_again(clause: &[u32], k: usize, one: u32, lists: &mut Lists, trail: &Trail) -> Option<u32>
+    requires even { IsEven trail.now }
+    requires inside { All (λ l. l < length trail.now.marks) clause.now }
+    ensures same { lists.new ≡ lists.old }
+    ensures answer { MatchOption result (OthersNegated clause.now one (set_of trail.now))
+        (λ l. IsOpen clause.now l (set_of trail.now) × (l ≢ one)) }
 {
-    if trail.has(other) {
-        return Visit::Keep;
+    if clause.len() <= SHORT {
+        return open_other(clause, one, trail);
     }
-    match open_other(clause, other, trail) {
+    match open_place(clause, lists.start_of(k), one, trail) {
+        None => None,
+        Some(place) => {
+            lists.note_start(k, place);
+            Some(clause[place])
+        }
+    }
+}
+
+/// Looks at the clause of a number, one of whose watched literals is negated; `other` is the other one, which is not marked.
+pub(crate) fn look(
+    clauses: &Clauses,
+    k: usize,
+    other: u32,
+    lists: &mut Lists,
+    trail: &mut Trail,
+) -> Visit
+    requires even { IsEven trail.old }
+    requires number { k < length clauses.now }
+    requires inside { All (All (λ l. l < length trail.old.marks)) clauses.now }
+    requires consistent { IsConsistent trail.old }
+    requires there { Contains (slice_index_or clauses.now k []) other }
+    requires fresh { set_of trail.old other ≡ false }
+    ensures same { lists.new ≡ lists.old }
+    ensures visited { Visited (slice_index_or clauses.now k []) other trail.old trail.new
+        result }
+{
+    match open_again(clauses.clause(k), k, other, lists, trail) {
         Some(literal) => Visit::Move(literal),
         None => {
             if trail.has(negation(other)) {
@@ -85,7 +117,8 @@ fn move_watch(
     Ok(())
 }
 
-/// Looks at the clause at a place of a list; the next place to look at, or none if the clause is falsified.
+/// Looks at the clause at a place of a list, whose other watched literal is not marked; the next place to look at, or none if the
+/// clause is falsified.
 fn enter(
     clauses: &Clauses,
     watched: &mut [u32],
@@ -102,6 +135,8 @@ fn enter(
     requires negated { negated < length trail.old.marks }
     requires off { set_of trail.old (negation negated) ≡ true }
     requires there { place < length (list_at lists.old negated) }
+    requires fresh { ¬ IsPassed watched.old (slice_index (list_at lists.old negated) place)
+        trail.old }
     requires short { place < usize.MAX }
     ensures watched { IsWatched clauses.now watched.new lists.new
         (length trail.old.marks) }
@@ -118,7 +153,7 @@ fn enter(
         return Ok(Some(place));
     }
     let other = watched[negation(watch) as usize];
-    match look(clauses.clause((watch / 2) as usize), other, trail) {
+    match look(clauses, (watch / 2) as usize, other, lists, trail) {
         Visit::Conflict => Ok(None),
         Visit::Keep => Ok(Some(place + 1)),
         Visit::Move(literal) => match move_watch(watched, lists, negated, place, literal) {
@@ -126,6 +161,32 @@ fn enter(
             Err(error) => Err(error),
         },
     }
+}
+
+/// Whether a clause's other watched literal than that of a watch is marked.
+fn is_passed(watched: &[u32], watch: u32, trail: &Trail) -> bool
+    ensures { IsTrue result ↔ IsPassed watched.now watch trail.now }
+{
+    let other = negation(watch) as usize;
+    other < watched.len() && trail.is_marked(watched[other])
+}
+
+/// The first place of a list, from one on, whose watch is to be looked at, or the list's end: of each before it the other watched
+/// literal of its clause is marked.
+fn next_place(list: &[u32], watched: &[u32], place: usize, trail: &Trail) -> usize
+    requires { place ≤ length list.now }
+    ensures order { place ≤ result }
+    ensures within { result ≤ length list.now }
+    ensures passed { ArePassed list.now watched.now place result trail.now }
+    ensures stop { result < length list.now
+        → ¬ IsPassed watched.now (slice_index list.now result) trail.now }
+{
+    for next in place..list.len() {
+        if !is_passed(watched, list[next], trail) {
+            return next;
+        }
+    }
+    list.len()
 }
 
 /// Looks at all clauses that watch a negated literal; whether one is falsified.
@@ -151,12 +212,12 @@ fn walk(
         (λ met. WalkedTo clauses.now negated watched.old trail.old
         watched.new trail.new met) }
 {
-    let mut place = 0;
+    let mut place = next_place(lists.list(negated), watched, 0, trail);
     while place < lists.len_of(negated) {
         match enter(clauses, watched, lists, negated, place, trail) {
             Err(error) => return Err(error),
             Ok(None) => return Ok(true),
-            Ok(Some(next)) => place = next,
+            Ok(Some(next)) => place = next_place(lists.list(negated), watched, next, trail),
         }
     }
     Ok(false)
