@@ -1,5 +1,5 @@
 -- A list in which each cell of an array has a leaf has a leaf for each word by which a value is told.
-use Rattle.std.proofs.Common.{◌≡◌, ℕ, zero, suc, ◌+◌, ◌*◌, ◌/◌, ◌<◌, Bool, true, false, cond, ◌&&◌, ◌||◌, List, [], ◌∷◌, ◌++◌, map, flat_map, filter, length, replicate, Option, Some, None, IfSome, unwrap_or, refl, sym, ap, ap₂, subst, append-nil, append_assoc, ◌∙◌, ◌≤◌, arith}
+use Rattle.std.proofs.Common.{◌≡◌, ℕ, zero, suc, ◌*◌, ◌/◌, ◌<◌, Bool, true, false, cond, ◌&&◌, ◌||◌, List, [], ◌∷◌, ◌++◌, map, flat_map, filter, length, replicate, Option, Some, None, IfSome, unwrap_or, refl, sym, ap, ap₂, subst, append-nil, append_assoc, ◌∙◌, ◌≤◌, arith}
 use Rattle.std.specs.List.{AllByRecursion, AllZip}
 use Rattle.std.proofs.lemmas.Bool.{true≢false}
 use Rattle.std.proofs.lemmas.List.{length-map}
@@ -214,5 +214,4 @@ module _ (full : List FullLine) (p : Places) (wide celled : List Item) (h : IsWr
 
   pub each_has_next : first_init_without_next celled celled ≡ None
   each_has_next = k.nexts (each_has_next_line full p wide h)
-
   -- a state that is 1 in the first frame alone has a word of its own

@@ -1,5 +1,5 @@
 -- The words of states in the first frame, by the places of their pieces.
-use Rattle.std.proofs.Common.{◌≡◌, ℕ, ◌+◌, ◌*◌, ◌^◌, ◌<◌, Bool, true, false, List, [], ◌∷◌, ◌++◌, map, length, slice_get, Option, Some, None, is_some, option_and_then, eqb-true, eq-eqb, ◌==◌, inl, inr, refl, sym, ap, ◌∙◌, arith}
+use Rattle.std.proofs.Common.{◌≡◌, ℕ, ◌+◌, ◌*◌, ◌^◌, ◌<◌, Bool, true, List, [], ◌∷◌, ◌++◌, map, length, slice_get, Option, Some, None, is_some, option_and_then, eqb-true, eq-eqb, ◌==◌, inl, inr, refl, sym, ap, ◌∙◌, arith}
 use Rattle.std.specs.List.{AllByRecursion, AllZip}
 use Rattle.std.proofs.lemmas.Bool.{true≢false, cases_Bool, false_from_ne_true}
 use Rattle.std.proofs.lemmas.Option.{same_Some}
@@ -8,7 +8,7 @@ use Rattle.btor2.specs.Items.{find_item, is_input, is_state, node_width, width_o
 use Rattle.base.specs.Word.{bit}
 use Rattle.btor2.specs.Trace.{Frame, bits_of, IsFrame, SameFrame, IsInput, IsState}
 use Rattle.wide.specs.WideModels.{greatest_width, IsWideModel}
-use Rattle.full.specs.Lines.{FullLine, Sort, words, Operand, init_of}
+use Rattle.full.specs.Lines.{FullLine, Sort, Operand, init_of}
 use Rattle.full.specs.WrittenOut.{Places, read_by, InitIsWritten, IsWrittenOut}
 use Rattle.full.proofs.FullLookUps.{init_said}
 use Rattle.full.proofs.PlainLaw.{wide_words_fit}

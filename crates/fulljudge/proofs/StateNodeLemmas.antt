@@ -10,7 +10,7 @@ use Rattle.btor2.specs.Reachability.{model_shows}
 use Rattle.btor2.specs.Trace.{Frame, bits_of, state_word, IsFrame, IsTrace, IsInput, IsState}
 use Rattle.btor2.proofs.StateWords.{state_has_word}
 use Rattle.wide.specs.WideModels.{greatest_width, IsWideModel}
-use Rattle.full.specs.Lines.{FullLine, Sort, words, arrays, sort_size, lines_of, find_line, sort_of, width_of, full_ids}
+use Rattle.full.specs.Lines.{FullLine, Sort, words, arrays, sort_size, is_form, lines_of, find_line, sort_of, width_of, full_ids}
 use Rattle.full.specs.Agreement.{names_full_state}
 use Rattle.full.specs.WrittenOut.{Places, read_by, StateIsWritten, IsWrittenOut}
 use Rattle.full.proofs.DownLemmas.{state_below}

@@ -1,2 +1,1 @@
 use Rattle.fullunfit.proofs.titles.ByValueTitles.add_front.Goals as goal
-
