@@ -5,6 +5,7 @@ use Rattle.std.proofs.lemmas.List.Elements.{All-nil}
 use Rattle.base.specs.Lines.{IsLine, text_of_lines, whole_lines}
 use Rattle.btor2.specs.declared.item.Item.{Item}
 use Rattle.btor2.specs.Items.{is_input, is_state, is_free}
+use Rattle.btor2.specs.Trace.{bits_of}
 use Rattle.fit.specs.Fitting.{Layout, ids_of}
 use Rattle.fit.proofs.ListLemmas.{AreDistinct, distinct_ids}
 use Rattle.fit.proofs.ModelLemmas.{wide_ids_fresh}
@@ -24,7 +25,7 @@ use Rattle.witness.proofs.ReadTextLemmas.{read_says}
 use Rattle.rejoin.specs.Pieces.{joined_judgement}
 use Rattle.rejoin.proofs.AlikeLemmas.{alike_judged}
 use Rattle.rejoin.proofs.ShapeItemLemmas.{shape_is_small as wide_is_small}
-use Rattle.unfit.specs.Joined.{Names, Wide, Lined, join_witness}
+use Rattle.unfit.specs.Joined.{Names, Wide, Lined, listed, lined, join_witness}
 use Rattle.unfit.specs.Unfitted.{IsOfWitness}
 use Rattle.unfit.proofs.KeptLemmas.{makes_claim, small_shape, read_of_witness, written_with, written_few, written_valid}
 use Rattle.unfit.proofs.WitnessLemmas.{joined_alike}
@@ -35,6 +36,7 @@ use Rattle.fulljudge.specs.Kept.{words_in}
 use Rattle.fulljudge.specs.Lines.{words_text}
 use Rattle.fulljudge.specs.Judgements.{judged_by, IsJudged, JudgesFull}
 use Rattle.fulljudge.proofs.DifferLemmas.{word_differs}
+use Rattle.fulljudge.proofs.ExtraLemmas.{with_states}
 use Rattle.fulljudge.proofs.FullLemmas.{given_here}
 use Rattle.fulljudge.proofs.LawLemmas.{shape_is, text_judged_by}
 use Rattle.fulljudge.proofs.LeftOutLemmas.{less_judged, valid_said}
@@ -42,6 +44,7 @@ use Rattle.fulljudge.proofs.OwnerLemmas.{owner_past}
 use Rattle.fulljudge.proofs.ShapeLemmas.{input_widths, none_more_free, as_many}
 use Rattle.fulljudge.proofs.TextLemmas.{AreCounted}
 use Rattle.fulljudge.proofs.ValidLemmas.{had, all_had, given_within}
+use Rattle.fullunfit.specs.Titles.{first_fronts, word_fronts, word_symbols}
 use Rattle.fullunfit.specs.Unfitted.{by_values, unfit_full_text, told_witness, NamesOwnState, KeepsFullJudgement}
 use Rattle.fullunfit.proofs.LessLemmas.{free_front, stays_valid, stays_few, frames_less}
 use Rattle.fullunfit.proofs.TextLemmas.{text_goes}
@@ -101,7 +104,7 @@ module _ (states inputs : List Sort) (places : StateWords) (shape : Shape) (name
   many_inputs : length (shape_of celled).inputs ≡ words_in sorts.inputs
   many_inputs = ap length (input_widths full p wide layout celled of.written of.words of.fitted.model)
 
-  is_with : _
+  is_with : shape_of celled ≡ with_states (word_shape sorts) (map (bits_of celled) of.words.more) (map (is_free celled) of.words.more)
   is_with = shape_is full p wide layout celled of.written of.words of.fitted.model distinct_inputs distinct_states
 
   free_words : (i : ℕ) → is_free_index (shape_of celled) i ≡ true → i < words_in sorts.states
@@ -170,12 +173,12 @@ module _ (states inputs : List Sort) (places : StateWords) (shape : Shape) (name
         (told_there v.frames valid.frames k d.told (given_here full p wide layout celled of.written of.words of.fitted.model distinct_inputs distinct_states (words_of v) k d))
     of_state j (inr own) k is differs = by (cases_lt k (words_in sorts.states))
       where
-        named : value_of_word sorts.states k < length sorts.states
-        named = subst (NamesOwnState full) (ap (judged_by sorts.states None) is) own
+        below : value_of_word sorts.states k < length sorts.states
+        below = subst (NamesOwnState full) (ap (judged_by sorts.states None) is) own
 
         by : (k < words_in sorts.states) ⊎ (words_in sorts.states ≤ k) → k < words_in sorts.states
         by (inl h) = h
-        by (inr past) = absurd (omega (arith, named, owner_past sorts.states k past))
+        by (inr past) = absurd (omega (arith, below, owner_past sorts.states k past))
 
     counted : AreCounted sorts
     counted = record { states = own_states; inputs = own_inputs }
@@ -227,3 +230,9 @@ pub source_judged : (states : List Sort) (shape : Shape) (narrow : List Item) (s
     → IfSome source (λ text. (j : Judgement) × (Judges narrow text j × (i ≡ judged_by states None (joined_judgement shape j))))
 source_judged states shape narrow None i k is h = tt
 source_judged states shape narrow (Some text) i k is h = (h.0, (h.1.0, is ∙ ap (judged_by states None) h.1.1))
+
+-- what stands beside the digits of words is as the names, the sorts and the nodes are
+pub titles_are : (states inputs : List Sort) (shape : Shape) (names : Names) (named : Bool) (w : StateWords) (s i : List Sort) (of_states of_inputs : List (Option (List ℕ))) (leaves nodes none nothing : List ℕ) → s ≡ states → i ≡ inputs → of_states ≡ names.states
+    → of_inputs ≡ names.inputs → leaves ≡ w.leaves → nodes ≡ w.nodes → none ≡ [] → nothing ≡ []
+    → lined shape (word_symbols s of_states) (word_symbols i of_inputs) named (listed (first_fronts s leaves nodes) (word_fronts s)) (listed (first_fronts i none nothing) (word_fronts i)) ≡ by_values states inputs shape names named w
+titles_are states inputs shape names named w s i of_states of_inputs leaves nodes none nothing es ei ss is l n a b = rw (es, ei, ss, is, l, n, a, b) refl

@@ -59,6 +59,15 @@ either false front h = h
 pub told_within : (sorts : List Sort) (leaves nodes : List ℕ) (f k : ℕ) → words_in sorts < 2 ^ 64 → k < words_in sorts → is_told (fronts_of sorts leaves nodes) f k ≡ not (is_out sorts leaves nodes f k)
 told_within sorts leaves nodes f k few h = ap has_bytes (front_is sorts leaves nodes f k h) ∙ either (is_out sorts leaves nodes f k) (word_front sorts k) (front_bytes sorts k few h)
 
+-- in later frames each is, and in the first one where its state's node is its leaf
+pub told_later : (sorts : List Sort) (leaves nodes : List ℕ) (f k : ℕ) → words_in sorts < 2 ^ 64 → k < words_in sorts → 0 < f → is_told (fronts_of sorts leaves nodes) f k ≡ true
+told_later sorts leaves nodes zero k few h later = absurd (omega (arith, later))
+told_later sorts leaves nodes (suc f) k few h later = told_within sorts leaves nodes (suc f) k few h
+
+pub told_first : (sorts : List Sort) (leaves nodes : List ℕ) (f k : ℕ) → words_in sorts < 2 ^ 64 → k < words_in sorts → f ≤ 0 → is_told (fronts_of sorts leaves nodes) f k ≡ not (has_other_node leaves nodes (value_of_word sorts k))
+told_first sorts leaves nodes zero k few h first = told_within sorts leaves nodes 0 k few h
+told_first sorts leaves nodes (suc f) k few h first = absurd (omega (arith, first))
+
 pub told_past : (sorts : List Sort) (leaves nodes : List ℕ) (f k : ℕ) → words_in sorts ≤ k → is_told (fronts_of sorts leaves nodes) f k ≡ false
 told_past sorts leaves nodes f k h = ap has_bytes (no_front sorts leaves nodes f k h)
 

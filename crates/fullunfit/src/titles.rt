@@ -1,5 +1,5 @@
 //! What stands beside the digits of a word in a witness over a model of the whole language.
-ghost use Rattle.std.specs.Prelude.{◌≡◌, ◌<◌, ◌≤◌, ◌^◌, ◌++◌, length, slice_get, unwrap_or};
+ghost use Rattle.std.specs.Prelude.{◌≡◌, ◌<◌, ◌≤◌, ◌^◌, ◌++◌, [], length, slice_get, unwrap_or};
 ghost use Rattle.fullmodel.specs.Lines.{sort_value};
 ghost use Rattle.fulljudge.specs.Compared.{has_other_node};
 ghost use Rattle.fulljudge.specs.Shapes.{value_of_word, word_count};
@@ -9,7 +9,7 @@ ghost use Rattle.fullunfit.specs.Titles.{first_fronts, value_front, word_front, 
 
 use base::Line;
 use btor2::Symbol;
-use fulljudge::{Value, Values, value_of_word};
+use fulljudge::{StateWords, Value, Values, value_of_word};
 use fullmodel::Sort;
 use unfit::{Titles, add_digits, add_name};
 
@@ -66,24 +66,37 @@ pub(crate) struct ByValue<'v> {
 }
 
 impl<'v> ByValue<'v> {
-    /// Those of such values, with these symbols. Of a value of which two different nodes stand in these nothing is told in the first
-    /// frame.
-    pub(crate) fn new(
-        values: &'v Values,
-        symbols: &'v [Option<Symbol>],
-        leaves: &'v [u32],
-        nodes: &'v [u32],
-    ) -> ByValue<'v>
+    /// Those of inputs of such values, with these symbols.
+    pub(crate) fn of_inputs(values: &'v Values, symbols: &'v [Option<Symbol>]) -> ByValue<'v>
         ensures values { result.values.now ≡ values.now }
         ensures symbols { result.symbols.now ≡ symbols.now }
-        ensures leaves { result.leaves.now ≡ leaves.now }
-        ensures nodes { result.nodes.now ≡ nodes.now }
+        ensures leaves { result.leaves.now ≡ [] }
+        ensures nodes { result.nodes.now ≡ [] }
     {
         ByValue {
             values,
             symbols,
-            leaves,
-            nodes,
+            leaves: &[],
+            nodes: &[],
+        }
+    }
+
+    /// Those of states, whose words stand there. Of one that has another node than its leaf's nothing is told in the first frame.
+    pub(crate) fn of_states(
+        values: &'v Values,
+        symbols: &'v [Option<Symbol>],
+        words: &'v StateWords,
+    ) -> ByValue<'v>
+        ensures values { result.values.now ≡ values.now }
+        ensures symbols { result.symbols.now ≡ symbols.now }
+        ensures leaves { result.leaves.now ≡ words.now.leaves }
+        ensures nodes { result.nodes.now ≡ words.now.nodes }
+    {
+        ByValue {
+            values,
+            symbols,
+            leaves: words.leaves.as_slice(),
+            nodes: words.nodes.as_slice(),
         }
     }
 

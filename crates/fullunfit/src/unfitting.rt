@@ -86,13 +86,8 @@ pub fn unfit_full<S: Source, K: Sink>(
 {
     let _few_states = states.words();
     let _few_inputs = inputs.words();
-    let state_titles = ByValue::new(
-        states,
-        names.states.as_slice(),
-        words.leaves.as_slice(),
-        words.nodes.as_slice(),
-    );
-    let input_titles = ByValue::new(inputs, names.inputs.as_slice(), &[], &[]);
+    let state_titles = ByValue::of_states(states, names.states.as_slice(), words);
+    let input_titles = ByValue::of_inputs(inputs, names.inputs.as_slice());
     match unfit_by(
         alloc,
         shape,
