@@ -85,14 +85,6 @@ told_front sorts leaves nodes f k is = by (cases_lt k (words_in sorts))
         (within, front ∙ shown (is_out sorts leaves nodes f k) (ap has_bytes (sym front) ∙ is))
     by (inr past) = absurd (true≢false (sym is ∙ told_past sorts leaves nodes f k past))
 
--- where it is not told it has none
-pub untold_front : (sorts : List Sort) (leaves nodes : List ℕ) (f k : ℕ) → is_told (fronts_of sorts leaves nodes) f k ≡ false → front_at (fronts_of sorts leaves nodes) f k ≡ []
-untold_front sorts leaves nodes f k is = by (front_at (fronts_of sorts leaves nodes) f k) is
-  where
-    by : (front : List ℕ) → has_bytes front ≡ false → front ≡ []
-    by [] e = refl
-    by (b ∷ bs) e = absurd (cc e)
-
 abbrev symbol_of : List Sort → List (Option (List ℕ)) → ℕ → Option (List ℕ)
 symbol_of sorts symbols k = get_or symbols (value_of_word sorts k) None
 

@@ -30,8 +30,8 @@ use Rattle.verbs.specs.declared.refusals.Refusal.TheVariants as refusal
 use Rattle.verbs.specs.declared.whole.Whole.{Whole}
 use Rattle.verbs.specs.Fitting.{IsNotFit, IsNotFitted}
 use Rattle.verbs.specs.Statuses.{IfInput}
-use Rattle.verbs.specs.Unfitting.{IsSpreadWide, IsUnfittedWide}
-use Rattle.verbs.specs.Whole.{IsJudgedByWhole, IsJudgedFitted, IsJudgedWhole, IsNotWhole, IsSpread, IsSpreadByWhole, IsSpreadWhole, IsUnfitted, IsUnfittedByWhole, IsUnfittedWhole, IsWholeOf}
+use Rattle.verbs.specs.Unfitting.{IsSpreadWide}
+use Rattle.verbs.specs.Whole.{IsJudgedByWhole, IsJudgedFitted, IsJudgedWhole, IsNotWhole, IsSpread, IsSpreadByWhole, IsSpreadWhole, IsUnfittedByWhole, IsUnfittedWhole, IsWholeOf}
 use Rattle.verbs.proofs.FittedLemmas.{not_fitted, seen}
 use Rattle.verbs.proofs.UnfittingLemmas.{ready_as}
 
@@ -176,10 +176,3 @@ pub unfitted_over_text : (named : Bool) (r : Result Judgement Refusal) (text : L
     → IfOk r (IsUnfittedByWhole named lines witness before now) → IfOk r (IsUnfittedWhole named (Some text) witness before now)
 unfitted_over_text named r text lines witness before now stands h =
     where_judged (IsUnfittedByWhole named lines witness before now) (IsUnfittedWhole named (Some text) witness before now) r (λ j k. record { lines = lines; stands = stands; unfitted = k }) h
-
--- and of what is unfitted
-pub unfitted_by_words : (named : Bool) (r : Result Judgement Refusal) (model witness before now : Option (List ℕ)) → IfOk r (IsUnfittedWide named model witness before now) → IfOk r (IsUnfitted named model witness before now)
-unfitted_by_words named r model witness before now h = where_judged (IsUnfittedWide named model witness before now) (IsUnfitted named model witness before now) r (λ j k. inl k) h
-
-pub unfitted_by_whole : (named : Bool) (r : Result Judgement Refusal) (model witness before now : Option (List ℕ)) → IfOk r (IsUnfittedWhole named model witness before now) → IfOk r (IsUnfitted named model witness before now)
-unfitted_by_whole named r model witness before now h = where_judged (IsUnfittedWhole named model witness before now) (IsUnfitted named model witness before now) r (λ j k. inr k) h
