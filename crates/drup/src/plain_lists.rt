@@ -1,5 +1,5 @@
 //! Lists of numbers, by their own numbers.
-ghost use Rattle.std.specs.Prelude.{◌≡◌, ℕ, ◌+◌, ◌-◌, ◌<◌, ◌++◌, [], ◌∷◌, length, IfOk, OnErr, slice_index, slice_set};
+ghost use Rattle.std.specs.Prelude.{◌≡◌, ℕ, ◌+◌, ◌-◌, ◌<◌, ◌++◌, [], ◌∷◌, length, IfOk, OnErr, slice_index, slice_index_or, slice_set, replicate};
 ghost use Rattle.std.specs.List.{swap_remove};
 ghost use Rattle.drup.specs.Lists.{list_at};
 

@@ -1,5 +1,5 @@
 //! A set of literals, in the order in which they came.
-ghost use Rattle.std.specs.Prelude.{◌≡◌, ℕ, ◌<◌, ◌≤◌, ◌++◌, true, false, [], ◌∷◌, length, take, IfOk, slice_index, slice_set};
+ghost use Rattle.std.specs.Prelude.{◌≡◌, ℕ, ◌<◌, ◌≤◌, ◌++◌, true, false, [], ◌∷◌, length, take, IfOk, slice_index, slice_index_or, slice_set};
 ghost use Rattle.drup.specs.Marked.{set_of, AreMarked, ArePlaced};
 
 use crate::fault::ClauseFault;
