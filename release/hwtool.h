@@ -29,7 +29,7 @@ extern "C" {
 #endif
 
 /* The version of the library that this header goes with. */
-#define HWTOOL_VERSION "0.13.0"
+#define HWTOOL_VERSION "0.14.0"
 
 /* The statuses. */
 enum {
@@ -116,9 +116,8 @@ uint32_t hwtool_check_btor_fit(const uint8_t *model, size_t model_length, const 
                                struct hwtool_verdict *verdict, struct hwtool_refusal *refusal);
 
 /* Judges a witness of the model that hwtool_fit writes, and writes the one of the model itself that says the same, with `names` or
- * without. The verdict is that of both. Each state of a model with arrays that has an init line has to begin with a constant and
- * have a next line. Answers DONE and TOO_SMALL with `verdict` and `needed`, TEXT_REFUSED, MODEL_REFUSED (as of
- * hwtool_check_btor_fit, or a state has an init and no next), NO_MEMORY. */
+ * without. The verdict is that of both; where a state differs that hwtool_fit put behind the model's, its index is how many states
+ * the model has. Answers DONE and TOO_SMALL with `verdict` and `needed`, else as hwtool_check_btor_fit. */
 uint32_t hwtool_unfit(const uint8_t *model, size_t model_length, bool names, const uint8_t *witness, size_t witness_length,
                       struct hwtool_verdict *verdict, uint8_t *buffer, size_t buffer_length, size_t *needed,
                       struct hwtool_refusal *refusal);
