@@ -53,6 +53,13 @@ def try_designs(place):
     try_steps(place)
 
 
+def over_whole_model(place, folder):
+    """What is judged of the first property's witness over the model as it was before it was fitted, and that witness."""
+    found = [place.folder / folder / it for it in ("whole-model.btor2", "b0/whole-witness")]
+    done = subprocess.run([place.program, "check-btor", "--fit", *found], capture_output=True, text=True, check=False)
+    return done.stdout, found[1].read_text()
+
+
 def try_steps(place):
     """What is seen in a design, and said of it; and words that say otherwise."""
     reading = {
@@ -64,10 +71,14 @@ def try_steps(place):
     }
     for name, wanted in reading.items():
         tally.same(f"{name}: what is said of it", wanted, place.results(f"{name}.flow")["reading"])
-    found = [place.folder / "wide.flow" / it for it in ("whole-model.btor2", "b0/whole-witness")]
-    done = subprocess.run([place.program, "check-btor", "--fit", *found], capture_output=True, text=True, check=False)
-    tally.same("wide: a witness over words as they stand in the source", "accepted 4 frames\n", done.stdout)
-    tally.true("wide: with their names", re.search(r"^0 0{95}1 ring@0$", found[1].read_text(), flags=re.M), found[1].read_text())
+    said, text = over_whole_model(place, "wide.flow")
+    tally.same("wide: a witness over words as they stand in the source", "accepted 4 frames\n", said)
+    tally.true("wide: with their names", re.search(r"^0 0{95}1 ring@0$", text, flags=re.M), text)
+    (place.folder / "begun.btor2").write_text(BEGUN)
+    place.run("begun.btor2")
+    said, text = over_whole_model(place, "begun.flow")
+    tally.same("begun: a witness over an array that begins with another", "accepted 1 frames\n", said)
+    tally.true("begun: without its first words", "\n#0\n@0\n" in text, text)
     place.run(EXAMPLES / "flow/undefined.v", "--zero-undefined", "-o", "zero.flow")
     tally.same("undefined bits as 0", [HOLDS], place.verdicts("zero.flow"))
     place.run(EXAMPLES / "flow/reset.v", "--clocked-resets", "-o", "sync.flow")
@@ -92,6 +103,18 @@ def try_steps(place):
 
 # Designs of a few lines: by the name of a file its text, what is said of it, and what is wanted of its properties.
 
+
+# An array that begins with another, which is an input.
+BEGUN = """1 sort bitvec 1
+2 sort array 1 1
+3 input 2 start
+4 state 2 cells
+5 init 2 4 3
+6 next 2 4 4
+7 input 1 at
+8 read 1 4 7
+9 bad 8
+"""
 
 # Designs of a few lines: by the name of a file its text, what is said of it, and what is wanted of its properties.
 OWN = {
