@@ -1,7 +1,7 @@
 -- What hints show, and what a clause that is kept by its id has.
-use Rattle.std.proofs.Common.{◌≡◌, ℕ, zero, suc, ◌+◌, ◌<◌, ◌≤◌, Bool, true, false, cond, List, [], ◌∷◌, ◌++◌, length, get_or, refl, sym, ap, subst, ◌∙◌, arith, length-append}
-use Rattle.std.specs.Prelude.{◌==◌, if◌then◌else◌, fold, All, Option, Some, None, nat_eq}
-use Rattle.std.proofs.lemmas.List.Elements.{All-get_or, All-push}
+use Rattle.std.proofs.Common.{◌≡◌, ℕ, suc, ◌<◌, Bool, true, false, List, [], ◌∷◌, length, get_or, refl, subst, arith}
+use Rattle.std.specs.Prelude.{◌==◌, if◌then◌else◌, fold, All, Option, Some, None}
+use Rattle.std.proofs.lemmas.List.Elements.{All-get_or}
 use Rattle.base.specs.Literal.{negation}
 use Rattle.drup.specs.declared.hints.Open.{Open}
 use Rattle.drup.specs.declared.hints.Open.TheVariants as opening

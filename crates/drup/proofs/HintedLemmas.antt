@@ -1,5 +1,5 @@
 -- Judges of steps with hints.
-use Rattle.std.proofs.Common.{◌≡◌, ℕ, zero, suc, ◌+◌, ◌<◌, Bool, true, false, List, [], ◌∷◌, ◌++◌, length, get_or, refl, sym, ap, subst, ◌∙◌, arith, length-append}
+use Rattle.std.proofs.Common.{◌≡◌, ℕ, suc, ◌+◌, Bool, true, false, List, [], ◌∷◌, ◌++◌, length, refl, sym, ap, subst, ◌∙◌, arith, length-append}
 use Rattle.std.specs.Prelude.{◌==◌, ◌||◌, nat_lt, if◌then◌else◌, Option, Some, None}
 use Rattle.std.specs.List.{list_any}
 use Rattle.std.specs.Option.{is_some}
@@ -12,7 +12,6 @@ use Rattle.drup.specs.declared.judgement.Judgement.TheVariants as judgement
 use Rattle.drup.specs.declared.why.Why.TheVariants as why
 use Rattle.drup.specs.Formula.{Formula}
 use Rattle.drup.specs.Proofs.{ProofFault}
-use Rattle.drup.specs.Judgements.{at_end}
 use Rattle.drup.specs.Named.{clause_of}
 use Rattle.drup.specs.Hints.{Named, named_from, with_clause, without_clause, negated, follow, by_finding, addition, deletion, HintedEnded, ended, judge_named, judge_hinted}
 use Rattle.drup.specs.HintedJudges.{HintedJudge, continued, StandsForHinted, HasJudgedHinted, LeadsHinted, BeginsHintedAt, BeginsHinted}

@@ -7,6 +7,7 @@ use Rattle.std.proofs.lemmas.Grind.{get_or_default_zero}
 use Rattle.std.specs.Prelude.{Contains}
 use Rattle.std.specs.List.{swap_remove}
 use Rattle.base.specs.Literal.{negation}
+use Rattle.drup.specs.Propagation.{Literals, OthersNegated}
 use Rattle.drup.specs.Marked.{Marked, set_of, IsConsistent, IsSettled, IsKept, IsPrefix, AreMarked}
 use Rattle.drup.specs.Growth.{IsOpen, GrowsMarked}
 use Rattle.drup.specs.Lists.{list_at}
@@ -233,6 +234,17 @@ other_inside clauses watched lists limit n w h low =
       low',
       subst (λ (c : List ℕ). Contains c (get_or watched (negation n) 0)) same (w.inside (negation n) room low'),
     )
+
+-- Of a clause of two literals, both of which are watched, the one is known where the other is.
+pub two_negated : (clause : List ℕ) (one negated : ℕ) (s : Literals) → length clause ≡ 2 → Contains clause one → Contains clause negated → (negated ≡ one → (i : ℕ) → i < length clause → get_or clause i 0 ≡ negated) → s (negation negated) ≡ true → OthersNegated clause one s
+two_negated clause one negated s two a b alike off =
+    let at_one = place_of clause one a in
+    let at_negated = place_of clause negated b in
+    λ i h ne.
+    let apart : i ≢ a.0 = λ e. ne (ap (λ (j : ℕ). get_or clause j 0) e ∙ at_one) in
+    let differ : b.0 ≢ a.0 = λ e. let same : negated ≡ one = sym at_negated ∙ ap (λ (j : ℕ). get_or clause j 0) e ∙ at_one in ne (alike same i h ∙ same) in
+    let is : i ≡ b.0 = omega (arith, two, h, a.1, b.1) in
+    ap (λ (j : ℕ). s (negation (get_or clause j 0))) is ∙ ap (λ (l : ℕ). s (negation l)) at_negated ∙ off
 
 pub Grows-none : (clauses : List (List ℕ)) (old new : Marked) → new ≡ old → IsConsistent old → GrowsMarked clauses old new
 Grows-none clauses old new is c = subst (λ (m : Marked). GrowsMarked clauses old m) (sym is) (Grows-begin clauses old c)

@@ -1,5 +1,5 @@
 -- How a formula is kept.
-use Rattle.std.specs.Prelude.{◌≡◌, ℕ, ◌<◌, List, All, Result, Ok, Err}
+use Rattle.std.specs.Prelude.{ℕ, ◌<◌, List, All, Result, Ok, Err}
 use Rattle.drup.specs.declared.fault.FormulaFault.{FormulaFault}
 use Rattle.drup.specs.declared.fault.FormulaFault.TheVariants as fault
 use Rattle.drup.specs.declared.formula.Formula.TheInside.{Inside}

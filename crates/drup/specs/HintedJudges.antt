@@ -1,5 +1,5 @@
 -- What a judge of steps with hints stands for: the steps that it took, whatever follows them.
-use Rattle.std.specs.Prelude.{◌≡◌, ℕ, ◌+◌, ◌*◌, ◌<◌, Bool, true, false, List, [], ◌∷◌, ◌++◌, length, Option, Some, None}
+use Rattle.std.specs.Prelude.{◌≡◌, ℕ, ◌<◌, Bool, true, false, List, ◌∷◌, ◌++◌, length, Option, Some, None}
 use Rattle.std.specs.List.{list_any}
 use Rattle.base.specs.Decimals.{is_nothing}
 use Rattle.drup.specs.declared.hinted_judge.HintedJudge.TheInside.{Inside}

@@ -5,11 +5,14 @@ use crate::fault::ClauseFault;
 use crate::passes::clause_between;
 use std::alloc::Global;
 
+/// The most literals that are held: the places of a clause's start and end have 32 bits.
+const MOST_LITERALS: usize = 4294967295;
+
 /// Where a clause starts and ends in the list.
 #[derive(Clone, Copy)]
 pub(crate) struct Stretch {
-    start: usize,
-    end: usize,
+    start: u32,
+    end: u32,
 }
 
 /// Clauses by their places, which they keep: one that is taken away is left without literals.
@@ -61,7 +64,17 @@ impl Clauses {
         ensures { result.now ≡ slice_index_or self.now k [] }
     {
         let stretch = self.stretches[k];
-        clause_between(&self.literals, stretch.start, stretch.end)
+        clause_between(&self.literals, stretch.start as usize, stretch.end as usize)
+    }
+
+    /// How many literals the clause at a place has.
+    #[inline]
+    pub fn len_of(&self, k: usize) -> usize
+        requires { k < length self.now }
+        ensures { result ≡ length (slice_index_or self.now k []) }
+    {
+        let stretch = self.stretches[k];
+        (stretch.end - stretch.start) as usize
     }
 
     /// Puts a clause behind the others.
@@ -71,9 +84,15 @@ impl Clauses {
     {
         self.stretches.reserve(1)?;
         let start = self.literals.len();
+        if start > MOST_LITERALS || clause.len() > MOST_LITERALS - start {
+            return Err(ClauseFault::NoMemory);
+        }
         self.literals.extend_from_slice(clause)?;
         let end = self.literals.len();
-        match self.stretches.push(Stretch { start, end }) {
+        match self.stretches.push(Stretch {
+            start: start as u32,
+            end: end as u32,
+        }) {
             Ok(_) => {}
             Err(_) => unreachable!(),
         }

@@ -29,8 +29,9 @@ pub(crate) fn open_other(clause: &[u32], one: u32, trail: &Trail) -> Option<u32>
     ensures { MatchOption result (OthersNegated clause.now one (set_of trail.now))
         (λ l. IsOpen clause.now l (set_of trail.now) × (l ≢ one)) }
 {
+    let marks = trail.marks();
     for literal in clause {
-        if *literal != one && !trail.has(negation(*literal)) {
+        if !marks[negation(*literal) as usize] && *literal != one {
             return Some(*literal);
         }
     }
@@ -46,9 +47,10 @@ fn open_between(clause: &[u32], from: usize, to: usize, one: u32, trail: &Trail)
         (StretchNegated clause.now from to one (set_of trail.now))
         (λ place. IsOpenPlace clause.now place one (set_of trail.now)) }
 {
+    let marks = trail.marks();
     for place in from..to {
         let literal = clause[place];
-        if literal != one && !trail.has(negation(literal)) {
+        if !marks[negation(literal) as usize] && literal != one {
             return Some(place);
         }
     }

@@ -299,7 +299,8 @@ impl Propagator {
     /// Adds a clause, with all that follows, which is kept. Where propagation then meets a conflict, nothing is changed and
     /// the answer is yes.
     ///
-    /// Errors: `NoMemory` where a growth was refused, also of the 32 bits of a clause's number; nothing is changed then.
+    /// Errors: `NoMemory` where a growth was refused, also of the 32 bits of a clause's number, or of the place of a literal
+    /// among those that are held; nothing is changed then.
     pub fn add(&mut self, clause: &[u32]) -> Result<bool, ClauseFault>
         requires { All (λ l. l < self.old.limit) clause.now }
         ensures { MatchResult result (λ met. AddedTo self.old clause.now self.new met)

@@ -1,7 +1,7 @@
 //! The judge of proofs in the text form, and of the words of proofs in either form.
-ghost use Rattle.std.specs.Prelude.{◌≡◌, ◌+◌, ◌*◌, ◌-◌, ◌^◌, ◌<◌, ◌++◌, ◌∷◌, [], List, ℕ, true, false, min, All, IfOk};
+ghost use Rattle.std.specs.Prelude.{◌≡◌, ◌+◌, ◌*◌, ◌-◌, ◌^◌, ◌<◌, ◌≤◌, ◌++◌, ◌∷◌, [], List, ℕ, true, false, min, take, length, slice_index, ◌==◌, All, IfOk};
 ghost use Rattle.drup.specs.Formula.{Formula as FormulaValue};
-ghost use Rattle.drup.specs.Proofs.{mark, Mark, faulty, ProofReading, reading_from, read_text_proof};
+ghost use Rattle.drup.specs.Proofs.{is_proof_blank, mark, Mark, faulty, ProofReading, reading_from, read_text_proof};
 ghost use Rattle.drup.specs.Judgements.{JudgesReading};
 ghost use Rattle.drup.specs.Words.{SpellsWord, IsBelow, token_said};
 ghost use Rattle.drup.specs.StepReaders.{StandsForWords};
@@ -40,6 +40,19 @@ impl std::marker::Model for TextJudge {
     ghost view = { λ j. record { reader = j.reader; variables = j.variables; line = j.line; place = j.place; word = j.word } };
 
     ghost invariant = { IsTextJudge };
+}
+
+/// Whether a byte stands at a place that neither ends a word nor the line.
+fn is_letter_at(bytes: &[u8], place: usize) -> bool
+    ensures inside { result ≡ true → place < length bytes.now }
+    ensures goes_on { result ≡ true → slice_index bytes.now place == 10 ≡ false }
+    ensures apart { result ≡ true → is_proof_blank (slice_index bytes.now place) ≡ false }
+{
+    if place >= bytes.len() {
+        return false;
+    }
+    let byte = bytes[place];
+    byte != b'\n' && !is_blank(byte)
 }
 
 impl TextJudge {
@@ -191,13 +204,55 @@ impl TextJudge {
         }
     }
 
+    /// Takes the bytes from a place on that are of one word, in a line of words; the place behind them.
+    fn take_letters(&mut self, bytes: &[u8], from: usize) -> usize
+        requires open { self.old.reader.closed ≡ false }
+        requires within { self.old.place ≡ place.Within }
+        requires there { from ≤ length bytes.now }
+        ensures stands { (f : FormulaValue) (text : List ℕ)
+            → StandsForLines f self.old (text ++ take from bytes.now)
+            → StandsForLines f self.new (text ++ take result bytes.now) }
+        ensures order { from ≤ result }
+        ensures inside { result ≤ length bytes.now }
+    {
+        let mut word = self.word;
+        let mut place = from;
+        while is_letter_at(bytes, place) {
+            word = word.with(bytes[place]);
+            place += 1;
+        }
+        self.word = word;
+        place
+    }
+
+    /// Takes the byte at a place, and those of a word behind it; the place behind these.
+    fn take_more(&mut self, bytes: &[u8], from: usize) -> usize
+        requires { from < length bytes.now }
+        ensures stands { (f : FormulaValue) (text : List ℕ)
+            → StandsForLines f self.old (text ++ take from bytes.now)
+            → StandsForLines f self.new (text ++ take result bytes.now) }
+        ensures order { from < result }
+        ensures inside { result ≤ length bytes.now }
+    {
+        self.take(bytes[from]);
+        if self.is_closed() {
+            return from + 1;
+        }
+        match self.place() {
+            Place::Within => self.take_letters(bytes, from + 1),
+            Place::Begins => from + 1,
+            Place::Comment => from + 1,
+        }
+    }
+
     /// Takes bytes of the text behind those before.
     pub(crate) fn feed(&mut self, bytes: &[u8])
         ensures { (f : FormulaValue) (text : List ℕ) → StandsForLines f self.old text
             → StandsForLines f self.new (text ++ bytes.now) }
     {
-        for byte in bytes {
-            self.take(*byte);
+        let mut place = 0;
+        while place < bytes.len() {
+            place = self.take_more(bytes, place);
         }
     }
 

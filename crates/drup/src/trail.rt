@@ -47,11 +47,12 @@ impl Trail {
         self.marks[literal as usize]
     }
 
-    /// Whether a number is that of a marked literal.
-    pub fn is_marked(&self, number: u32) -> bool
-        ensures { result ≡ set_of self.now number }
+    /// For each literal below the limit, whether it is marked.
+    #[inline]
+    pub fn marks(&self) -> &[bool]
+        ensures { result.now ≡ self.now.marks }
     {
-        (number as usize) < self.marks.len() && self.marks[number as usize]
+        &self.marks
     }
 
     /// How many literals are marked.

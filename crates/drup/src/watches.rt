@@ -16,7 +16,7 @@ use crate::passes::{open_other, open_place};
 use crate::trail::Trail;
 
 /// How many literals a clause has at most that is searched from its front each time.
-const SHORT: usize = 8;
+const SHORT: usize = 5;
 
 /// What is done with a watch of a clause.
 #[derive(Clone, Copy)]
@@ -50,6 +50,25 @@ fn open_again(clause: &[u32], k: usize, one: u32, lists: &mut Lists, trail: &Tra
     }
 }
 
+/// A literal of the clause of a number, other than one, that is not negated. Of two literals the other one than that is known to
+/// be negated, so these are not read.
+fn open_of(clauses: &Clauses, k: usize, one: u32, lists: &mut Lists, trail: &Trail) -> Option<u32>
+    requires even { IsEven trail.now }
+    requires number { k < length clauses.now }
+    requires inside { All (All (λ l. l < length trail.now.marks)) clauses.now }
+    requires two { length (slice_index_or clauses.now k []) ≡ 2
+        → OthersNegated (slice_index_or clauses.now k []) one (set_of trail.now) }
+    ensures same { lists.new ≡ lists.old }
+    ensures answer { MatchOption result
+        (OthersNegated (slice_index_or clauses.now k []) one (set_of trail.now))
+        (λ l. IsOpen (slice_index_or clauses.now k []) l (set_of trail.now) × (l ≢ one)) }
+{
+    if clauses.len_of(k) == 2 {
+        return None;
+    }
+    open_again(clauses.clause(k), k, one, lists, trail)
+}
+
 /// Looks at the clause of a number, one of whose watched literals is negated; `other` is the other one, which is not marked.
 pub(crate) fn look(
     clauses: &Clauses,
@@ -64,11 +83,13 @@ pub(crate) fn look(
     requires consistent { IsConsistent trail.old }
     requires there { Contains (slice_index_or clauses.now k []) other }
     requires fresh { set_of trail.old other ≡ false }
+    requires two { length (slice_index_or clauses.now k []) ≡ 2
+        → OthersNegated (slice_index_or clauses.now k []) other (set_of trail.old) }
     ensures same { lists.new ≡ lists.old }
     ensures visited { Visited (slice_index_or clauses.now k []) other trail.old trail.new
         result }
 {
-    match open_again(clauses.clause(k), k, other, lists, trail) {
+    match open_of(clauses, k, other, lists, trail) {
         Some(literal) => Visit::Move(literal),
         None => {
             if trail.has(negation(other)) {
@@ -163,12 +184,20 @@ fn enter(
     }
 }
 
+/// Whether a number is that of a marked literal.
+fn is_marked(marks: &[bool], number: u32) -> bool
+    ensures { result ≡ slice_index_or marks.now number false }
+{
+    (number as usize) < marks.len() && marks[number as usize]
+}
+
 /// Whether a clause's other watched literal than that of a watch is marked.
-fn is_passed(watched: &[u32], watch: u32, trail: &Trail) -> bool
-    ensures { IsTrue result ↔ IsPassed watched.now watch trail.now }
+fn is_passed(watched: &[u32], watch: u32, marks: &[bool]) -> bool
+    ensures { IsTrue result
+        ↔ IsPassed watched.now watch (record { marks = marks.now; order = [] }) }
 {
     let other = negation(watch) as usize;
-    other < watched.len() && trail.is_marked(watched[other])
+    other < watched.len() && is_marked(marks, watched[other])
 }
 
 /// The first place of a list, from one on, whose watch is to be looked at, or the list's end: of each before it the other watched
@@ -181,8 +210,9 @@ fn next_place(list: &[u32], watched: &[u32], place: usize, trail: &Trail) -> usi
     ensures stop { result < length list.now
         → ¬ IsPassed watched.now (slice_index list.now result) trail.now }
 {
+    let marks = trail.marks();
     for next in place..list.len() {
-        if !is_passed(watched, list[next], trail) {
+        if !is_passed(watched, list[next], marks) {
             return next;
         }
     }

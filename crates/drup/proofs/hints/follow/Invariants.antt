@@ -1,6 +1,6 @@
 use Rattle.std.proofs.Common.{◌≡◌, length, drop}
-use Rattle.drup.specs.Marked.{set_of, IsEven}
-use Rattle.drup.specs.Named.{clause_of, AreNamed}
+use Rattle.drup.specs.Marked.{set_of}
+use Rattle.drup.specs.Named.{clause_of}
 use Rattle.drup.specs.Hints.{follow}
 use Rattle.drup.proofs.hints.follow.Given as goal
 

@@ -1,11 +1,10 @@
-use Rattle.std.proofs.Common.{◌≡◌, ℕ, Bool, List, get_or, sym, ap, ◌∙◌, arith, take}
+use Rattle.std.proofs.Common.{ℕ, Bool, List, sym, ap, ◌∙◌, arith, take}
 use Rattle.std.specs.Prelude.{◌==◌, ◌||◌}
 use Rattle.std.proofs.lemmas.List.{take_all}
 use Rattle.std.proofs.lemmas.List.Sums.{fold_more}
 use Rattle.base.specs.Literal.{negation}
 use Rattle.drup.specs.Propagation.{Literals, no_literal}
-use Rattle.drup.specs.Marked.{set_of}
-use Rattle.drup.specs.Hints.{negated, with_negation, with_marked}
+use Rattle.drup.specs.Hints.{negated, with_negation}
 use Rattle.drup.proofs.hints.mark_negations.Goals as goal
 
 pub loop-literal-preserved : goal.loop-literal-preserved

@@ -1,5 +1,4 @@
-use Rattle.std.proofs.Common.{◌≡◌, ℕ, List, sym, ap, subst, ◌∙◌}
-use Rattle.std.specs.Prelude.{Option}
+use Rattle.std.proofs.Common.{sym, ap, ◌∙◌}
 use Rattle.drup.specs.Marked.{set_of}
 use Rattle.drup.specs.Hints.{by_clause}
 use Rattle.drup.proofs.HintLemmas.{open_below, named_below}

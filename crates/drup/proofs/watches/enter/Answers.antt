@@ -2,10 +2,11 @@ use Rattle.std.proofs.Common.{◌≡◌, ◌≢◌, ◌+◌, ◌/◌, ◌<◌, �
 use Rattle.std.specs.Prelude.{Contains}
 use Rattle.base.specs.Literal.{negation}
 use Rattle.drup.specs.Marked.{Marked, set_of}
+use Rattle.drup.specs.Propagation.{OthersNegated}
 use Rattle.drup.specs.Lists.{list_at}
 use Rattle.drup.specs.Watched.{Watches, Moved, AdvancesWatch, IsMet, clause_at}
 use Rattle.drup.proofs.PassLemmas.{contained_inside, Grows-by}
-use Rattle.drup.proofs.WatchLemmas.{Dropped, is_dropped, IsWatched-drop, Advances-drop, Advances-keep, IsWatched-move, Advances-move, other_inside, on_off, Grows-none, Stays-move}
+use Rattle.drup.proofs.WatchLemmas.{Dropped, is_dropped, IsWatched-drop, Advances-drop, Advances-keep, IsWatched-move, Advances-move, other_inside, two_negated, on_off, Grows-none, Stays-move}
 use Rattle.drup.proofs.watches.enter.Goals as goal
 
 pub returns-then-not-watches-clause-watched : goal.returns-then-not-watches-clause-watched
@@ -39,6 +40,20 @@ look-requires-clause-there c =
     let inside : watch < length c.args.watched.now = watched.0 in
     let own = other_inside _ _ _ _ watch c.requires.watched inside (omega (arith, watched.1, c.requires.negated)) in
     subst (λ (n : ℕ). Contains (clause_at c.args.clauses.now watch) (get_or c.args.watched.now n 0)) (sym c.negation.ensures) own.4
+
+pub look-requires-clause-two : goal.look-requires-clause-two
+look-requires-clause-two c =
+    λ two.
+    let watch = c.at-watch.result in
+    let is : watch ≡ get_or (list_at c.args.lists.now c.args.negated) c.args.place 0 = c.at-watch.ensures in
+    let watched = subst (λ (b : Bool). Watches c.args.watched.now watch c.args.negated b) c.if-not-watches.false c.watches.ensures in
+    let inside : watch < length c.args.watched.now = watched.0 in
+    let low : get_or c.args.watched.now watch 0 < length c.args.trail.now.marks = omega (arith, watched.1, c.requires.negated) in
+    let own = other_inside _ _ _ _ watch c.requires.watched inside low in
+    let there : Contains (clause_at c.args.clauses.now watch) c.args.negated = subst (λ (l : ℕ). Contains (clause_at c.args.clauses.now watch) l) watched.1 (c.requires.watched.inside watch inside low) in
+    let alike : c.args.negated ≡ get_or c.args.watched.now (negation watch) 0 → (i : ℕ) → i < length (clause_at c.args.clauses.now watch) → get_or (clause_at c.args.clauses.now watch) i 0 ≡ c.args.negated = λ e i h. c.requires.watched.differ watch inside (watched.1 ∙ e) i h ∙ watched.1 in
+    subst (λ (n : ℕ). OthersNegated (clause_at c.args.clauses.now watch) (get_or c.args.watched.now n 0) (set_of c.args.trail.now)) (sym c.negation.ensures)
+    (two_negated (clause_at c.args.clauses.now watch) (get_or c.args.watched.now (negation watch) 0) c.args.negated (set_of c.args.trail.now) two own.4 there alike c.requires.off)
 
 pub move_watch-requires-clause-other : goal.move_watch-requires-clause-other
 move_watch-requires-clause-other c =

@@ -1,8 +1,8 @@
-use Rattle.std.proofs.Common.{◌≡◌, ℕ, Bool, false, length, refl, sym, subst, ◌∙◌}
+use Rattle.std.proofs.Common.{false, length, refl, sym, subst, ◌∙◌}
 use Rattle.std.specs.Prelude.{◌||◌}
 use Rattle.std.proofs.lemmas.Bool.{or_parts}
 use Rattle.drup.specs.Hints.{deletion, ended}
-use Rattle.drup.specs.Named.{clause_of, IsTight}
+use Rattle.drup.specs.Named.{IsTight}
 use Rattle.drup.specs.HintedJudges.{HintedJudge, StandsForHinted}
 use Rattle.drup.proofs.NamedLemmas.{fresh_without, on_no_err}
 use Rattle.drup.proofs.HintedLemmas.{stands_step, leads_deleted}

@@ -1,7 +1,6 @@
-use Rattle.std.proofs.Common.{◌≡◌, false, List, [], length, sym, ap, subst, ◌∙◌}
-use Rattle.std.specs.Prelude.{Option, None, Some}
+use Rattle.std.proofs.Common.{false, [], length, sym, ap, subst, ◌∙◌}
+use Rattle.std.specs.Prelude.{Option, None}
 use Rattle.drup.specs.declared.judgement.Judgement.{Judgement}
-use Rattle.drup.specs.declared.judgement.Judgement.TheVariants as judgement
 use Rattle.drup.specs.HintedJudges.{HintedJudge, StandsForHinted, continued}
 use Rattle.drup.proofs.HintedLemmas.{judged_end}
 use Rattle.drup.proofs.hinted_judge.HintedJudge.finish.Goals as goal

@@ -1,4 +1,4 @@
-use Rattle.std.proofs.Common.{◌≡◌, ◌<◌, ℕ, List, true, false, length, refl, sym, ap, subst, ◌∙◌}
+use Rattle.std.proofs.Common.{◌≡◌, ◌<◌, true, false, length, refl, sym, subst, ◌∙◌}
 use Rattle.std.specs.Prelude.{All, nat_lt, Some}
 use Rattle.std.specs.Option.{is_some}
 use Rattle.drup.specs.declared.hints.Finding.TheVariants as finding
