@@ -85,7 +85,7 @@ write_id lines s array index word h row = sort_id lines s h (there_is (sort_at l
 
 -- ---- widths
 
-sort_most : (lines : List FullLine) (s : ℕ) → IsAccepted lines → size_of (sort_at lines s) ≤ 1048576
+pub sort_most : (lines : List FullLine) (s : ℕ) → IsAccepted lines → size_of (sort_at lines s) ≤ 1048576
 sort_most lines s h = by (sort_at lines s) refl
   where
     by : (o : Option Sort) → sort_at lines s ≡ o → size_of o ≤ 1048576

@@ -11,3 +11,10 @@ pub mod StandsLemmas
 pub mod FaultLemmas
 pub mod StepLemmas
 pub mod WideLemmas
+pub mod LongLemmas
+pub mod PartLemmas
+pub mod WrittenLemmas
+pub mod PlainLemmas
+pub mod LastLemmas
+pub mod GroupLemmas
+pub mod WritingLemmas

@@ -101,7 +101,7 @@ first_is_word line token rest e = (subst (AllByRecursion IsWord) e (tokens_are_w
 pub none_whole : (bytes : List ℕ) → bytes ≡ [] → IsWhole bytes
 none_whole bytes e = rw e (λ line. refl)
 
-begins_on : (word line : List ℕ) → begins_token word ≡ true → begins_token (word ++ line) ≡ true
+pub begins_on : (word line : List ℕ) → begins_token word ≡ true → begins_token (word ++ line) ≡ true
 begins_on [] line h = absurd (cc)
 begins_on (b ∷ bs) line h = h
 

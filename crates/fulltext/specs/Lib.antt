@@ -2,5 +2,8 @@
 pub mod Signs
 pub mod Reading
 pub mod Spelling
+pub mod Writing
+pub mod Pieces
+pub mod Groups
 pub mod FirstFault
 pub mod Steps

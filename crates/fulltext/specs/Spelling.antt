@@ -31,12 +31,17 @@ abbrev pub AreSigns : ℕ → List Bool → Type 0
 AreSigns n [] = Unit {0}
 AreSigns n (m ∷ ms) = (length (m ∷ ms) ≡ n) × (list_any (λ (s : Bool). s) (m ∷ ms) ≡ true)
 
+-- the tokens behind the id of a line that is no form
+abbrev pub array_tokens : Says → Tokens
+array_tokens (form b ms) = []
+array_tokens (array_sort index element) = codes "sort" ∷ codes "array" ∷ decimal index ∷ decimal element ∷ []
+array_tokens (read s array index) = codes "read" ∷ decimal s ∷ decimal array ∷ operand_token index ∷ []
+array_tokens (write s array index word) = codes "write" ∷ decimal s ∷ decimal array ∷ operand_token index ∷ operand_token word ∷ []
+
 -- tokens behind an id say what a line says: those of a form without minuses, and `-` before each operand that has one
 abbrev pub SaysLine : Says → Tokens → Type 0
 SaysLine (form b ms) tokens = (plain : Tokens) × (tokens ≡ signed_behind (tokens_before b) ms plain) × WideSaysBody b plain × AreSigns (length (operands b)) ms
-SaysLine (array_sort index element) tokens = tokens ≡ codes "sort" ∷ codes "array" ∷ decimal index ∷ decimal element ∷ []
-SaysLine (read s array index) tokens = tokens ≡ codes "read" ∷ decimal s ∷ decimal array ∷ operand_token index ∷ []
-SaysLine (write s array index word) tokens = tokens ≡ codes "write" ∷ decimal s ∷ decimal array ∷ operand_token index ∷ operand_token word ∷ []
+SaysLine b tokens = tokens ≡ array_tokens b
 
 -- the tokens of a line spell a line of a model: its id, what it says, and its symbol where it has one, which is a symbol's bytes
 pub record SpellsLine (line : Tokens) (x : FullLine) : Type 0 where

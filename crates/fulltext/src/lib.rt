@@ -2,10 +2,17 @@
 #![tactic(auto)]
 
 mod constants;
+mod decimals;
+mod digits;
+mod forms;
 mod kinds;
 pub mod laws;
+mod pieces;
 mod reading;
 mod says;
 mod signs;
+mod words;
+mod writing;
 
 pub use reading::read;
+pub use writing::write;
