@@ -2,30 +2,28 @@
 use Rattle.std.proofs.Common.{◌≡◌, ℕ, suc, ◌<◌, Bool, true, false, cond, List, [], ◌∷◌, ◌++◌, map, length, Option, Some, None, option_and_then, Result, Ok, Err, append-nil, refl, sym, ap, subst, ◌∙◌, arith, IfOk, codes, ◌&&◌}
 use Rattle.std.specs.List.{last_or}
 use Rattle.std.specs.Str.{bytes_eq}
-use Rattle.std.proofs.lemmas.List.{length-map}
 use Rattle.std.proofs.lemmas.Option.{none-some}
 use Rattle.std.proofs.lemmas.Result.{IfOk-at_ok}
-use Rattle.base.specs.Lines.{IsLine, unfinished, whole_lines}
-use Rattle.base.proofs.LineLemmas.{lines_are_lines, lines_of_text}
+use Rattle.base.specs.Lines.{IsLine, unfinished}
 use Rattle.btor2.specs.declared.item.Item.{Item}
 use Rattle.btor2.specs.Trace.{Frame, IsTrace}
 use Rattle.witness.specs.declared.why.Why.{Why}
 use Rattle.witness.specs.Texts.{Shape, Assignment, Parts, is_comment, has_free, shape_of, most_lines}
-use Rattle.witness.specs.Readings.{Reading, with_said, so_far, next_line, lines_behind, reading}
-use Rattle.witness.specs.Admits.{Place, AtStatus, AtClaims, AtParts, InStates, InFrame, AtEnd, Read, nothing_read, claims_at, assignment_at, state_assignment_at, begins_part, opens_frame, opens_states, admit_at, admit, word_reader}
+use Rattle.witness.specs.Readings.{Reading, with_said, so_far, next_line}
+use Rattle.witness.specs.Admits.{Place, AtStatus, AtClaims, AtParts, InStates, InFrame, AtEnd, Read, claims_at, assignment_at, state_assignment_at, begins_part, opens_frame, opens_states, admit_at, admit, word_reader}
 use Rattle.witness.specs.ClosedWords.{word_reading, closed_word_frames, said_in, closed_words, IsClosedTrace, is_behind_frame, word_at, last_word}
 use Rattle.witness.specs.Judgements.{FrameWords, frame_words, initial_words, given_frames}
 use Rattle.witness.specs.WordStands.{WordJudge, StandsForWitness}
 use Rattle.witness.proofs.ReadingLemmas.{by_test, line_admitted}
 use Rattle.rejoin.specs.Pieces.{cut_shape, split_parts}
 use Rattle.spread.specs.Spread.{IsShort}
-use Rattle.spread.specs.Passing.{passing_lines, passing_text}
+use Rattle.spread.specs.Passing.{passing_text}
 use Rattle.spread.specs.Stands.{IsWideShape, part_behind}
 use Rattle.spread.proofs.AdmittedLemmas.{wide_is_small, part_opens}
 use Rattle.spread.proofs.AlikeLemmas.{split_read}
-use Rattle.spread.proofs.LineLemmas.{next_is, Passes, all_pass}
+use Rattle.spread.proofs.GrowthLemmas.{pieces_read, frames_alike}
+use Rattle.spread.proofs.LineLemmas.{next_is}
 use Rattle.spread.proofs.SpreaderLemmas.{next_reading, admitted_few, few}
-use Rattle.spread.proofs.TextLemmas.{each_passing}
 use Rattle.fulljudge.specs.Compared.{told_more, BeginsRun, FirstWords, AwaitsFirst, HasFirst, HoldsFirst, HeardFirst, IsFound}
 use Rattle.fulljudge.proofs.HearLemmas.{ClosesFirst, line_goes}
 
@@ -86,28 +84,6 @@ behind_first shape h r c =
     let states = ap (λ (o : Option (List Assignment)). record { place = r.place; claims = r.claims; closed = c.first ∷ []; states = o; open_part = r.open_part }) c.states in
     let open_part = ap (λ (l : List Assignment). record { place = r.place; claims = r.claims; closed = c.first ∷ []; states = None; open_part = l }) c.open_part in
     ap (λ (s : Read). is_behind_frame (split_read shape s)) (closed ∙ states ∙ open_part) ∙ behind_at shape r.claims c.first r.place
-
--- ---- what is read of a text
-
-module _ (shape : Shape) (narrow : List Item) (text : List ℕ) (good : IsWideShape shape) (cut : shape_of narrow ≡ cut_shape shape) (short : IsShort text) where
-  fed : List (List ℕ)
-  fed = passing_lines shape (so_far 0 nothing_read) (whole_lines text)
-
-  passes : Passes shape 0 nothing_read (word_reading shape text) (whole_lines text) (passing_lines shape (so_far 0 nothing_read) (whole_lines text))
-  unfolding reading
-  passes = let small = wide_is_small shape good in all_pass shape good small.states small.inputs 0 0 nothing_read (whole_lines text) (omega (arith, short)) (omega (arith, short)) refl
-
-  -- over the fitted model the pieces of it are read
-  pub pieces_read : said_in narrow (passing_text shape text) ≡ split_read shape (word_reading shape text).read
-  unfolding reading
-  pieces_read =
-      ap (λ (s : Shape). (word_reading s (passing_text shape text)).read) cut
-      ∙ ap (λ (ls : List (List ℕ)). (lines_behind (word_reader (cut_shape shape)) (so_far 0 nothing_read) ls).read)
-      (lines_of_text (passing_lines shape (so_far 0 nothing_read) (whole_lines text)) (each_passing shape good (wide_is_small shape good) (so_far 0 nothing_read) (whole_lines text) (lines_are_lines text)))
-      ∙ ap (λ (g : Reading Read). g.read) passes.is
-
-  frames_alike : closed_word_frames (shape_of narrow) (passing_text shape text) ≡ length (word_reading shape text).read.closed
-  frames_alike = ap (λ (r : Read). length r.closed) pieces_read ∙ length-map (word_reading shape text).read.closed (split_parts shape)
 
 -- ---- a line more
 

@@ -33,6 +33,7 @@ use Rattle.rejoin.proofs.PlaceLemmas.{place_map}
 use Rattle.fulljudge.specs.Shapes.{Leaf, leaves_of, word_count, word_width, word_widths, first_index, value_of_word}
 use Rattle.fulljudge.specs.Told.{told, ByIndex, DiffersAt, FirstDiffers}
 use Rattle.fulljudge.specs.Judgements.{judged_by, IsJudged}
+use Rattle.fulljudge.specs.Rises.{IsJudgedWithRises}
 use Rattle.fulljudge.specs.Written.{AreGiven, ConstantTold, ConstantsTold, IsCompared}
 use Rattle.fulljudge.specs.Cells.{HasWordsOf, TellsWords}
 use Rattle.fulljudge.proofs.RunLemmas.{by_index, states_named}
@@ -41,7 +42,7 @@ use Rattle.fulljudge.proofs.CelledLemmas.{IsOfKind, by_part, state_pieces, are_g
 use Rattle.fulljudge.proofs.ToldLemmas.{WordsFit, told_other}
 use Rattle.fulljudge.proofs.FirstLemmas.{StandAt, leaves_stand, BeginsSo, inits_hold, constant_told, own_of_pieces, init_fits}
 use Rattle.fulljudge.proofs.DifferLemmas.{get_at, Located, located, absence, WordDiffers, word_differs}
-use Rattle.fulljudge.proofs.JudgedLemmas.{at_first, all_get, node_is_leaf, constant_first, judged_by_trace, judged_to_differ}
+use Rattle.fulljudge.proofs.JudgedLemmas.{at_first, all_get, node_is_leaf, constant_first, rises_of, differs_rising, rising_by_trace, judged_to_differ}
 
 -- ---- traces
 
@@ -293,10 +294,11 @@ module _ (full : List FullLine) (p : Places) (wide : List Item) (layout : Layout
       judged_to_differ full p wide h w (joined celled layout begin) (map (joined celled layout) (given_frames celled w)) (map (joined celled layout) trace.0) (value_of_word sorts k) above up.1 up.2 given
       (first_differs w k d fit.words (fit.few k d.told (given_here w k d)) w.frames (joined celled layout begin) (map (joined celled layout) (given_frames celled w)) (map (joined celled layout) trace.0) refl above up.2 given)
 
-  -- what is judged over such a list makes what is judged over the model
-  pub judged : (w : Words) (fit : TellsWords full celled w) (j : Judgement) (d : Option ℕ) → JudgesWords celled w j
-      → ((gs : List Frame) → IsTrace celled (initial_words celled w) (given_frames celled w) gs → IsCompared full p wide w.frames (map (read_by p) (map (joined celled layout) gs)) d) → IsJudged full w (judged_by sorts d j)
-  judged w fit j d judges compared = by (first_different celled (initial_words celled w)) refl
+  -- what is judged over such a list, and the first rises in a trace of it, make what is judged over the model and those in a run
+  pub judged : (w : Words) (fit : TellsWords full celled w) (j : Judgement) (d : Option ℕ) (firsts : List (Option ℕ)) → JudgesWords celled w j
+      → ((gs : List Frame) → IsTrace celled (initial_words celled w) (given_frames celled w) gs → IsCompared full p wide w.frames (map (read_by p) (map (joined celled layout) gs)) d)
+      → firsts ≡ rises_of w.claims (map (model_shows celled) (trace_exists celled (initial_words celled w) (given_frames celled w) model).0) (length (nodes_of is_bad celled)) → IsJudgedWithRises full w (judged_by sorts d j) firsts
+  judged w fit j d firsts judges compared are = by (first_different celled (initial_words celled w)) refl
     where
       begin : Frame
       begin = initial_words celled w
@@ -307,7 +309,7 @@ module _ (full : List FullLine) (p : Places) (wide : List Item) (layout : Layout
       shown : (o : Option ℕ) → first_different celled begin ≡ o → j ≡ verdict o w.claims (length (nodes_of is_bad celled)) (map (model_shows celled) trace.0)
       shown o e = judges trace.0 trace.1 ∙ ap (λ (o : Option ℕ). verdict o w.claims (length (nodes_of is_bad celled)) (map (model_shows celled) trace.0)) e
 
-      agreed : first_different celled begin ≡ None → (d : Option ℕ) → IsCompared full p wide w.frames (map (read_by p) (map (joined celled layout) trace.0)) d → IsJudged full w (judged_by sorts d j)
+      agreed : first_different celled begin ≡ None → (d : Option ℕ) → IsCompared full p wide w.frames (map (read_by p) (map (joined celled layout) trace.0)) d → IsJudgedWithRises full w (judged_by sorts d j) firsts
       agreed e d compared =
           let so = begins_so celled w model distinct_states e in
           let up = trace_above wide celled layout c.fits begin (given_frames celled w) trace.0 fit.state fit.inputs trace.1 in
@@ -315,7 +317,8 @@ module _ (full : List FullLine) (p : Places) (wide : List Item) (layout : Layout
           let given = given_by w begin (begins_with_given celled w) in
           let same : j ≡ verdict None w.claims (length (nodes_of is_bad wide)) (map (model_shows wide) (map (joined celled layout) trace.0)) =
           shown None e ∙ ap₂ (λ (n : ℕ) (l : List Shown). verdict None w.claims n l) bads_count (sym up.3) in
-          by d compared same (constants_told w.frames (constants_of w so fit.words)) above up.1 up.2 given
+          let rises : firsts ≡ rises_of w.claims (map (model_shows wide) (map (joined celled layout) trace.0)) (length (nodes_of is_bad wide)) = are ∙ ap₂ (λ (n : ℕ) (l : List Shown). rises_of w.claims l n) bads_count (sym up.3) in
+          by d compared same rises (constants_told w.frames (constants_of w so fit.words)) above up.1 up.2 given
         where
           state : Frame
           state = joined celled layout begin
@@ -326,17 +329,17 @@ module _ (full : List FullLine) (p : Places) (wide : List Item) (layout : Layout
           gs : List Frame
           gs = map (joined celled layout) trace.0
 
-          by : (d : Option ℕ) → IsCompared full p wide w.frames (map (read_by p) gs) d → j ≡ verdict None w.claims (length (nodes_of is_bad wide)) (map (model_shows wide) gs) → ConstantsTold full p wide w.frames
-              → IsInitial wide state → AllByRecursion (IsInput wide) inputs → IsTrace wide state inputs gs → AreGiven full p wide state w.frames inputs → IsJudged full w (judged_by sorts d j)
-          by None compared same constants above fits trace given =
-              subst (λ (r : Judgement). IsJudged full w (judged_by sorts None r)) (sym same)
-              (subst (IsJudged full w) (sym (stays_judged (violation_from 0 (map (model_shows wide) gs)) (unreached_from w.claims (map (model_shows wide) gs) 0 (length (nodes_of is_bad wide))) (length (map (model_shows wide) gs))))
-              (judged_by_trace full p wide h w state inputs gs above fits trace given constants compared))
-          by (Some i) compared same constants above fits trace given =
-              subst (λ (r : Judgement). IsJudged full w (judged_by sorts (Some i) r)) (sym same)
-              (subst (IsJudged full w) (sym (is_to_differ i (violation_from 0 (map (model_shows wide) gs)) (unreached_from w.claims (map (model_shows wide) gs) 0 (length (nodes_of is_bad wide))) (length (map (model_shows wide) gs))))
-              (judged_to_differ full p wide h w state inputs gs i above fits trace given compared))
+          by : (d : Option ℕ) → IsCompared full p wide w.frames (map (read_by p) gs) d → j ≡ verdict None w.claims (length (nodes_of is_bad wide)) (map (model_shows wide) gs) → firsts ≡ rises_of w.claims (map (model_shows wide) gs) (length (nodes_of is_bad wide))
+              → ConstantsTold full p wide w.frames → IsInitial wide state → AllByRecursion (IsInput wide) inputs → IsTrace wide state inputs gs → AreGiven full p wide state w.frames inputs → IsJudgedWithRises full w (judged_by sorts d j) firsts
+          by None compared same rises constants above fits trace given =
+              subst (λ (r : Judgement). IsJudgedWithRises full w (judged_by sorts None r) firsts) (sym same)
+              (subst (λ (r : Judgement). IsJudgedWithRises full w r firsts) (sym (stays_judged (violation_from 0 (map (model_shows wide) gs)) (unreached_from w.claims (map (model_shows wide) gs) 0 (length (nodes_of is_bad wide))) (length (map (model_shows wide) gs))))
+              (rising_by_trace full p wide h w state inputs gs firsts above fits trace given constants compared rises))
+          by (Some i) compared same rises constants above fits trace given =
+              subst (λ (r : Judgement). IsJudgedWithRises full w (judged_by sorts (Some i) r) firsts) (sym same)
+              (subst (λ (r : Judgement). IsJudgedWithRises full w r firsts) (sym (is_to_differ i (violation_from 0 (map (model_shows wide) gs)) (unreached_from w.claims (map (model_shows wide) gs) 0 (length (nodes_of is_bad wide))) (length (map (model_shows wide) gs))))
+              (differs_rising full w i firsts (judged_to_differ full p wide h w state inputs gs i above fits trace given compared)))
 
-      by : (o : Option ℕ) → first_different celled begin ≡ o → IsJudged full w (judged_by sorts d j)
+      by : (o : Option ℕ) → first_different celled begin ≡ o → IsJudgedWithRises full w (judged_by sorts d j) firsts
       by None e = agreed e d (compared trace.0 trace.1)
-      by (Some k) e = subst (λ (r : Judgement). IsJudged full w (judged_by sorts d r)) (sym (shown (Some k) e)) (judged_otherwise w fit k e)
+      by (Some k) e = subst (λ (r : Judgement). IsJudgedWithRises full w (judged_by sorts d r) firsts) (sym (shown (Some k) e)) (differs_rising full w (value_of_word sorts k) firsts (judged_otherwise w fit k e))

@@ -1,6 +1,6 @@
 -- What is judged by a trace of the list that a model is written out as.
-use Rattle.std.proofs.Common.{◌≡◌, ℕ, zero, suc, ◌+◌, Bool, true, false, cond, eq-eqb, List, [], ◌∷◌, map, flat_map, length, slice_get, Option, Some, None, is_some, option_and_then, refl, sym, ap, ap₂, subst, ◌∙◌, ⊎_elim, inl, inr, arith}
-use Rattle.std.specs.List.{AllByRecursion, AllZip}
+use Rattle.std.proofs.Common.{◌≡◌, ℕ, zero, suc, ◌+◌, nat_eq, Bool, true, false, cond, eq-eqb, List, [], ◌∷◌, map, flat_map, length, slice_get, Option, Some, None, is_some, option_and_then, refl, sym, ap, ap₂, subst, ◌∙◌, ⊎_elim, inl, inr, arith}
+use Rattle.std.specs.List.{AllByRecursion, AllZip, list_any}
 use Rattle.std.proofs.lemmas.Bool.{true≢false}
 use Rattle.std.proofs.lemmas.List.{length-append}
 use Rattle.std.proofs.lemmas.Option.{none-some, same_Some}
@@ -22,9 +22,11 @@ use Rattle.full.proofs.PlaceLemmas.{placed}
 use Rattle.full.proofs.UpLemmas.{run_up}
 use Rattle.witness.specs.declared.judgement.Judgement.TheVariants as judgement
 use Rattle.witness.specs.Judgements.{FrameWords, Words, verdict}
+use Rattle.rises.specs.FirstRises.{first_rises_from}
 use Rattle.fulljudge.specs.Shapes.{Leaf, leaves_of, word_count, first_index}
 use Rattle.fulljudge.specs.Told.{told, ByIndex, DiffersAt, FirstDiffers}
 use Rattle.fulljudge.specs.Judgements.{IsJudged}
+use Rattle.fulljudge.specs.Rises.{IsJudgedWithRises}
 use Rattle.fulljudge.specs.Written.{AreGiven, ConstantTold, OtherTold, ConstantsTold, OthersTold}
 use Rattle.fulljudge.proofs.RunLemmas.{states_named, are_told}
 
@@ -72,6 +74,16 @@ pub all_get : {A : Type 0} (P : A → Type 0) (xs : List A) (i : ℕ) (x : A) �
 all_get P [] i x h e = absurd (none-some x e)
 all_get P (y ∷ ys) zero x h e = subst P (same_Some y x e) h.0
 all_get P (y ∷ ys) (suc i) x h e = all_get P ys i x h.1 e
+
+-- ---- first rises
+
+-- of so many bad properties, those that are claimed
+abbrev pub rises_of : List ℕ → List Shown → ℕ → List (Option ℕ)
+rises_of claims shown n = first_rises_from (λ k. list_any (λ c. nat_eq c k) claims) shown 0 n
+
+-- of a state that begins otherwise nothing is said of them
+pub differs_rising : (full : List FullLine) (w : Words) (i : ℕ) (firsts : List (Option ℕ)) → IsJudged full w (judgement.InitDiffers i) → IsJudgedWithRises full w (judgement.InitDiffers i) firsts
+differs_rising full w i firsts judged = record { judged = judged; rises = λ other. absurd (other i refl) }
 
 -- ---- first words
 
@@ -122,17 +134,25 @@ module _ (full : List FullLine) (p : Places) (wide : List Item) (h : IsWrittenOu
       → verdict None claims (length (nodes_of is_bad wide)) (map (model_shows wide) gs) ≡ verdict None claims (length (lines_of is_bad full)) (map (full_shows full) (map (read_by p) gs))
   shown_alike claims gs same = ap₂ (λ (n : ℕ) (l : List Shown). verdict None claims n l) (bads_alike full p wide h) (sym same)
 
-  -- by a trace whose words are as is told, with which all first words agree
-  pub judged_by_trace : (w : Words) (state : Frame) (inputs gs : List Frame) → IsInitial wide state → AllByRecursion (IsInput wide) inputs → IsTrace wide state inputs gs → AreGiven full p wide state w.frames inputs
-      → ConstantsTold full p wide w.frames → OthersTold full p wide w.frames (map (read_by p) gs) → IsJudged full w (verdict None w.claims (length (nodes_of is_bad wide)) (map (model_shows wide) gs))
-  judged_by_trace w state inputs gs initial fit trace given constants others =
+  -- by a trace whose words are as is told, with which all first words agree; the first rises in it are those in the run
+  pub rising_by_trace : (w : Words) (state : Frame) (inputs gs : List Frame) (firsts : List (Option ℕ)) → IsInitial wide state → AllByRecursion (IsInput wide) inputs → IsTrace wide state inputs gs → AreGiven full p wide state w.frames inputs
+      → ConstantsTold full p wide w.frames → OthersTold full p wide w.frames (map (read_by p) gs) → firsts ≡ rises_of w.claims (map (model_shows wide) gs) (length (nodes_of is_bad wide))
+      → IsJudgedWithRises full w (verdict None w.claims (length (nodes_of is_bad wide)) (map (model_shows wide) gs)) firsts
+  rising_by_trace w state inputs gs firsts initial fit trace given constants others are =
       let run = run_up full p wide state inputs gs h initial fit trace in
       record {
-        frames = map (read_by p) gs;
-        run = run.0;
-        told = are_told full p wide h w.frames state inputs gs trace given;
-        says = inr ((λ i differs. nowhere w.frames state inputs gs i initial trace constants others differs), shown_alike w.claims gs run.1);
+        judged = record {
+          frames = map (read_by p) gs;
+          run = run.0;
+          told = are_told full p wide h w.frames state inputs gs trace given;
+          says = inr ((λ i differs. nowhere w.frames state inputs gs i initial trace constants others differs), shown_alike w.claims gs run.1);
+        };
+        rises = λ same. are ∙ ap₂ (λ (n : ℕ) (l : List Shown). rises_of w.claims l n) (bads_alike full p wide h) (sym run.1);
       }
+
+  pub judged_by_trace : (w : Words) (state : Frame) (inputs gs : List Frame) → IsInitial wide state → AllByRecursion (IsInput wide) inputs → IsTrace wide state inputs gs → AreGiven full p wide state w.frames inputs
+      → ConstantsTold full p wide w.frames → OthersTold full p wide w.frames (map (read_by p) gs) → IsJudged full w (verdict None w.claims (length (nodes_of is_bad wide)) (map (model_shows wide) gs))
+  judged_by_trace w state inputs gs initial fit trace given constants others = (rising_by_trace w state inputs gs _ initial fit trace given constants others refl).judged
 
   -- by one with which a first word does not agree
   pub judged_to_differ : (w : Words) (state : Frame) (inputs gs : List Frame) (i : ℕ) → IsInitial wide state → AllByRecursion (IsInput wide) inputs → IsTrace wide state inputs gs → AreGiven full p wide state w.frames inputs

@@ -28,3 +28,5 @@ pub mod HearLemmas
 pub mod FirstFrameLemmas
 pub mod CompareLemmas
 pub mod LeftOutLemmas
+pub mod ClaimLemmas
+pub mod RisingLemmas

@@ -3,6 +3,7 @@ pub mod Shapes
 pub mod Lines
 pub mod Told
 pub mod Judgements
+pub mod Rises
 pub mod Written
 pub mod Cells
 pub mod Kept

@@ -10,6 +10,7 @@ ghost use Rattle.witness.specs.Answers.{AnswersJudge, CountsJudge, NamesState};
 ghost use Rattle.spread.specs.Spread.{IsShort};
 ghost use Rattle.fulljudge.specs.Judgements.{judged_by, JudgesFull};
 ghost use Rattle.fulljudge.specs.Judged.{IsJudgeable};
+ghost use Rattle.fulljudge.specs.Rises.{JudgesFullWithRises};
 
 use crate::compared::StateWords;
 use crate::first_words::FirstWords;
@@ -19,7 +20,8 @@ use crate::values::Values;
 use base::Source;
 use btor2::Model;
 use rejoin::Shape;
-use spread::judge_spread_by;
+use rises::FirstRises;
+use spread::{Both, RiseHearer, judge_spread_by};
 use std::alloc::Global;
 use witness::{JudgeFault, Judgement};
 
@@ -72,17 +74,63 @@ pub fn judge_full<S: Source>(
     // the source failed once where a device's fault is answered, and else not at all
     ensures counted { CountsJudge result (S.failures source.old) (S.failures source.new) }
 {
+    let (judgement, _) = judge_full_with_rises(
+        alloc, states, inputs, words, shape, narrow, source,
+    )?;
+    Ok(judgement)
+}
+
+/// Judges as `judge_full` does, and answers with the judgement the first frame in which each claimed bad property is 1, in a run of
+/// the model that is as the witness tells, the one by which that is judged. Of a text that is no witness, and where a state begins
+/// otherwise than is told of it, nothing is said of these frames. Beside what `judge_full` holds, it holds one for each bad property.
+///
+/// Conditions and errors: those of `judge_full`.
+pub fn judge_full_with_rises<S: Source>(
+    alloc: Global,
+    states: &Values,
+    inputs: &Values,
+    words: &StateWords,
+    shape: &Shape,
+    narrow: &Model,
+    source: &mut S,
+) -> Result<(Judgement, FirstRises), JudgeFault>
+    requires fitted { (full : List FullLine) × (p : Places) × (wide : List Item) × (layout : Layout) × (celled : List Item)
+        × IsJudgeable states.now inputs.now words.now shape.now narrow.now full p wide layout celled }
+    // the judgement is that of the whole text over the model
+    ensures judged { (full : List FullLine) (p : Places) (wide : List Item) (layout : Layout) (celled : List Item)
+        → IsJudgeable states.now inputs.now words.now shape.now narrow.now full p wide layout celled
+        → IfOk result (λ told. IfSome (S.to_come source.old)
+        (λ text. IsShort text → JudgesFull full text told.0)) }
+    // and what stands beside it are the first rises of the text's claims, in the run by which it is judged
+    ensures rises { (full : List FullLine) (p : Places) (wide : List Item) (layout : Layout) (celled : List Item)
+        → IsJudgeable states.now inputs.now words.now shape.now narrow.now full p wide layout celled
+        → IfOk result (λ told. IfSome (S.to_come source.old)
+        (λ text. IsShort text → JudgesFullWithRises full text told.0 told.1)) }
+    // a state with an init and no next is named exactly where there is one, the first
+    ensures answer { AnswersJudge result (first_init_without_next narrow.now narrow.now) }
+    ensures unread { IfErr result (λ e. NamesState e → source.new ≡ source.old) }
+    ensures end { OnOk result (IsAtEnd (S.to_come source.new)) }
+    // the source failed once where a device's fault is answered, and else not at all
+    ensures counted { CountsJudge result (S.failures source.old) (S.failures source.new) }
+{
     let _few_states = states.words();
     let _few_inputs = inputs.words();
     if let Some(id) = narrow.first_init_without_next() {
         return Err(JudgeFault::NoNext(id));
     }
     let lines = WordLines::new(states, inputs);
-    let Ok(mut hearer) = FirstWords::new(alloc, states, words) else {
+    let Ok(one) = FirstWords::new(alloc, states, words) else {
         return Err(JudgeFault::NoMemory);
     };
+    let Ok(other) = RiseHearer::new(alloc, narrow) else {
+        return Err(JudgeFault::NoMemory);
+    };
+    let mut hearer = Both { one, other };
     match judge_spread_by(alloc, shape, narrow, source, &lines, &mut hearer) {
-        Ok(judgement) => Ok(of_values(states, hearer.found(), judgement)),
+        Ok(judgement) => Ok((
+            of_values(states, hearer.one.found(), judgement),
+            hearer.other.firsts,
+        )),
         Err(fault) => Err(fault),
     }
 }

@@ -1,18 +1,21 @@
 //! Laws of witnesses over models of the whole language, as functions with no code.
-ghost use Rattle.std.specs.Prelude.{◌≡◌, ℕ, List, [], ◌∷◌, Option, None, codes, map};
+ghost use Rattle.std.specs.Prelude.{◌≡◌, ◌<◌, ℕ, true, false, List, [], ◌∷◌, Option, Some, None, codes, length, map, slice_get};
 ghost use Rattle.btor2.specs.declared.item.Item.{Item};
-ghost use Rattle.btor2.specs.Items.{is_state};
+ghost use Rattle.btor2.specs.Items.{is_bad, is_state};
 ghost use Rattle.btor2.specs.Lists.{first_init_without_next};
 ghost use Rattle.wide.specs.WideModels.{greatest_width, IsWideModel};
-ghost use Rattle.full.specs.Lines.{FullLine, words, arrays};
+ghost use Rattle.full.specs.Lines.{FullLine, words, arrays, lines_of};
 ghost use Rattle.celled.specs.Written.{IsWrittenInCells};
 ghost use Rattle.full.specs.WrittenOut.{Places, IsWrittenOut};
+ghost use Rattle.full.specs.Worked.{memory, memory_frame};
 ghost use Rattle.fit.specs.Fitting.{Layout};
 ghost use Rattle.witness.specs.declared.judgement.Judgement.{Judgement};
+ghost use Rattle.witness.specs.declared.judgement.Judgement.TheVariants as judgement;
 ghost use Rattle.witness.specs.Judgements.{Judges};
 ghost use Rattle.fulljudge.specs.Shapes.{Leaf, leaves_of, full_shape, first_index, value_of_word};
 ghost use Rattle.fulljudge.specs.Lines.{word_line, words_text};
 ghost use Rattle.fulljudge.specs.Judgements.{judged_by, JudgesFull};
+ghost use Rattle.fulljudge.specs.Rises.{full_first_rises, JudgesFullWithRises, full_claimed};
 ghost use Rattle.fulljudge.specs.Written.{ComparesText};
 ghost use Rattle.fulljudge.specs.Cells.{HasWordsOf, CanBeCounted};
 ghost use Rattle.fulljudge.specs.Told.{told};
@@ -37,6 +40,21 @@ pub fn cells_are_words()
         → first_init_without_next celled celled ≡ None }
     ensures model { (full : List FullLine) (celled : List Item) → IsWrittenInCells full celled
         → IsWideModel greatest_width celled }
+{}
+
+/// A law: where a text is accepted, each bad property that it claims has a first rise among its frames, one that it does not claim has
+/// none, and each bad property of the model stands among the first rises. So a bad property is claimed exactly where it has one.
+pub fn accepted_claims_rise()
+    ensures claimed { (full : List FullLine) (text : List ℕ) (frames k : ℕ) (firsts : List (Option ℕ))
+        → JudgesFullWithRises full text (judgement.Accepted frames) firsts → k < length (lines_of is_bad full)
+        → full_claimed full text k ≡ true
+        → (first : ℕ) × ((slice_get firsts k ≡ Some (Some first)) × (first < frames)) }
+    ensures others { (full : List FullLine) (text : List ℕ) (frames k : ℕ) (firsts : List (Option ℕ))
+        → JudgesFullWithRises full text (judgement.Accepted frames) firsts → k < length (lines_of is_bad full)
+        → full_claimed full text k ≡ false → slice_get firsts k ≡ Some None }
+    ensures many { (full : List FullLine) (text : List ℕ) (frames : ℕ) (firsts : List (Option ℕ))
+        → JudgesFullWithRises full text (judgement.Accepted frames) firsts
+        → length firsts ≡ length (lines_of is_bad full) }
 {}
 
 /// Worked rows: lines of a word of 3 bits, of an array of 4 cells of 2 bits, and of a word of 8 bits, as lines of words.
@@ -67,4 +85,13 @@ pub fn worked_told()
     ensures none { told ((2, 2) ∷ (4, 1) ∷ []) (words 4) 5 7 ≡ 7 }
     ensures first { first_index (words 3 ∷ arrays 2 2 ∷ words 8 ∷ []) 2 ≡ 5 }
     ensures owner { value_of_word (words 3 ∷ arrays 2 2 ∷ words 8 ∷ []) 4 ≡ 1 }
+{}
+
+/// Worked rows: over a model whose bad property is 1 where the word of the node 12 is, the first of some frames in which it is, where it
+/// is claimed.
+pub fn worked_first_rises()
+    ensures second { full_first_rises memory (0 ∷ []) (memory_frame 0 1 6 5 1 1 0 ∷ memory_frame 0 1 5 5 1 1 1 ∷ memory_frame 0 1 5 5 1 1 1 ∷ [])
+        ≡ Some 1 ∷ [] }
+    ensures never { full_first_rises memory (0 ∷ []) (memory_frame 0 1 6 5 1 1 0 ∷ []) ≡ None ∷ [] }
+    ensures unclaimed { full_first_rises memory [] (memory_frame 0 1 5 5 1 1 1 ∷ []) ≡ None ∷ [] }
 {}

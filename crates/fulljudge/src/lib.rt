@@ -13,7 +13,7 @@ mod values;
 mod word_lines;
 
 pub use compared::StateWords;
-pub use judging::{judge_full, of_values};
+pub use judging::{judge_full, judge_full_with_rises, of_values};
 pub use making::WordLines;
 pub use owners::value_of_word;
 pub use spreading::spread_full;

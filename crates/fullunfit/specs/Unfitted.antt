@@ -21,7 +21,7 @@ by_values states inputs shape names named w =
 
 -- The text with values that says what the lines of a text say that stand before the first faulty one, or all. It is that which `unfit` makes of it over the list, but
 -- that the line of each word tells its value, `i 1101` the value i itself, `i [0101] 1101` the cell 5 of the array i. What is told in the first frame of a state that
--- begins with no constant is left out, and in all frames what is told of the state that is 1 in the first alone.
+-- begins with no constant, or has an init and no next, is left out, and in all frames what is told of the state that is 1 in the first alone.
 abbrev pub unfit_full_text : List Sort → List Sort → Shape → Names → Bool → StateWords → List Item → List ℕ → List ℕ
 unfit_full_text states inputs shape names named w narrow text = unfit_text_with (by_values states inputs shape names named w) narrow text
 

@@ -34,8 +34,8 @@ use witness::Judgement;
 /// Of the text one line is held, and what one call of the source gives; beside it what the judge holds, two words for each piece,
 /// and what one call of the sink takes.
 ///
-/// What is told in the first frame of a state that begins with no constant means nothing, and is not written; nor is what is told of
-/// the state that is 1 in the first frame alone. Where that is told to be another, the answer is that the first word of a state
+/// What is told in the first frame of a state that begins with no constant, or has an init and no next, means nothing, and is not
+/// written; nor is what is told of the state that is 1 in the first frame alone. Where that is told to be another, the answer is that the first word of a state
 /// differs which the model has not: that behind the last.
 ///
 /// What is written means something where `states` and `inputs` are those of the model, and the list that the model is written out

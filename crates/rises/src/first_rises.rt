@@ -34,7 +34,7 @@ impl FirstRises {
     /// Of so many bad properties, none of which is reached.
     ///
     /// Error: a growth was refused.
-    pub(crate) fn new(alloc: Global, count: usize) -> Result<FirstRises, AllocError>
+    pub fn new(alloc: Global, count: usize) -> Result<FirstRises, AllocError>
         ensures { IfOk result (λ r. r ≡ replicate count None) }
     {
         let frames = vec![in alloc; None; count]?;

@@ -10,3 +10,4 @@ mod word_noter;
 pub use bit_noter::BitNoter;
 pub use first_rises::FirstRises;
 pub use noting::{judge_bits_with_rises, judge_words_with_rises};
+pub use word_noter::note_words;

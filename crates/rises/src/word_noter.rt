@@ -27,8 +27,8 @@ pub(crate) struct WordNoter<'a> {
     firsts: FirstRises,
 }
 
-/// Notes the frame that was closed last of each claim that is reached and had none.
-fn note(judge: &WordJudge<'_>, firsts: &mut FirstRises, frame: u64)
+/// Notes the frame with this number, the one that a judge closed last, for each claim that is reached and has none noted.
+pub fn note_words(judge: &WordJudge<'_>, firsts: &mut FirstRises, frame: u64)
     ensures { (items : List Item) (text : List ℕ) (fs : List Frame)
         → StandsForWitness items judge.now text → IsClosedTrace items text fs
         → IsNoted (word_reached items text fs) frame firsts.old firsts.new }
@@ -72,7 +72,7 @@ impl<'a> WordNoter<'a> {
         if self.judge.closed_frames() == closed {
             return;
         }
-        note(&self.judge, &mut self.firsts, closed);
+        note_words(&self.judge, &mut self.firsts, closed);
     }
 
     /// Takes a piece of the text behind those before.

@@ -13,3 +13,5 @@ pub mod SpreaderLemmas
 pub mod SourceLemmas
 pub mod WideShapeLemmas
 pub mod KeepLemmas
+pub mod GrowthLemmas
+pub mod RisingLemmas

@@ -5,5 +5,6 @@ pub mod Words
 pub mod Stands
 pub mod Made
 pub mod Heard
+pub mod Rising
 pub mod Answers
 pub mod Worked

@@ -1,5 +1,5 @@
 //! What hears the lines of a text that is judged.
-ghost use Rattle.std.specs.Prelude.{◌≡◌, ℕ, List, [], ◌∷◌, ◌++◌};
+ghost use Rattle.std.specs.Prelude.{ℕ, List};
 ghost use Rattle.base.specs.Lines.{IsLine};
 ghost use Rattle.btor2.specs.declared.item.Item.{Item};
 ghost use Rattle.witness.specs.Texts.{Shape as ShapeValue};
@@ -33,4 +33,25 @@ impl Hearer for Deaf {
     ghost stands = { λ over d shape narrow text. Unit };
 
     fn hear(&mut self, _line: &[u8], _judge: &WordJudge<'_>) {}
+}
+
+/// Two that hear the same text.
+#[derive(Drop)]
+pub struct Both<A, B> {
+    /// The one, which hears each line first.
+    pub one: A,
+    /// The other.
+    pub other: B,
+}
+
+impl<A: Hearer, B: Hearer> Hearer for Both<A, B> {
+    ghost Over = { A.Over × B.Over };
+
+    ghost stands = { λ over h shape narrow text. A.stands over.0 h.one shape narrow text
+        × B.stands over.1 h.other shape narrow text };
+
+    fn hear(&mut self, line: &[u8], judge: &WordJudge<'_>) {
+        self.one.hear(line, judge);
+        self.other.hear(line, judge);
+    }
 }

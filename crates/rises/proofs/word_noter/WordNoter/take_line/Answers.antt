@@ -16,8 +16,8 @@ returns-then-closed_frames-closed c items text h =
 pub returns : goal.returns
 returns c items text h =
     let line : List ℕ = c.requires.line in
-    let after : WordNoter = record { judge = c.feed.new.self; firsts = c.note.new.firsts } in
+    let after : WordNoter = record { judge = c.feed.new.self; firsts = c.note_words.new.firsts } in
     let stands = subst (λ (l : List ℕ). StandsForWitness items c.feed.new.self (text ++ l)) c.requires.is (c.feed.ensures items text h.judge) in
     subst (λ (l : List ℕ). NotesWords items after (text ++ l)) (sym c.requires.is)
     (words_more items text line c.args.self.now after c.requires.whole h stands c.closed_frames-closed.result c.closed_frames.result (c.closed_frames-closed.ensures items text h.judge) (c.closed_frames.ensures items _ stands) c.if-closed_frames-closed.false
-    (λ fs trace. c.note.ensures items _ fs stands trace))
+    (λ fs trace. c.note_words.ensures items _ fs stands trace))

@@ -5,7 +5,7 @@ use Rattle.witness.specs.ClosedWords.{IsClosedTrace}
 use Rattle.witness.specs.Reached.{word_reached}
 use Rattle.witness.specs.WordStands.{StandsForWitness}
 use Rattle.rises.specs.Notes.{noted}
-use Rattle.rises.proofs.word_noter.note.Given as goal
+use Rattle.rises.proofs.word_noter.note_words.Given as goal
 
 -- those below are noted, and the others as they were
 abbrev pub invariant-loop-position : goal.invariant-loop-position

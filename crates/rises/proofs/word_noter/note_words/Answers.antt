@@ -3,7 +3,7 @@ use Rattle.witness.specs.Reached.{word_reached}
 use Rattle.rises.specs.Notes.{noted}
 use Rattle.rises.proofs.RiseLemmas.{other_position}
 use Rattle.rises.proofs.NoteLemmas.{noted_below, noted_all}
-use Rattle.rises.proofs.word_noter.note.Goals as goal
+use Rattle.rises.proofs.word_noter.note_words.Goals as goal
 
 pub loop-position-init : goal.loop-position-init
 loop-position-init c = record { many = refl; below = λ items text fs stands trace k h. absurd (omega (arith, h)); above = λ k h. refl }
