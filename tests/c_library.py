@@ -183,10 +183,9 @@ def answer(command, flags, bad, names, texts):
     # without a choice the only one is meant
     over, has_hints = (ctypes.c_bool("--aiger" in flags), ctypes.c_bool("--engine" in flags)), ctypes.c_bool("--lrat" in flags)
     position, choice = size(bad or 0), (ctypes.c_bool(bad is not None), size(bad or 0))
-    if command == "check-btor" and "--fit" in flags:
-        return called(library.hwtool_check_btor_fit, (*first, *second), True, 0, circuit, file)
     if command in ("check-btor", "check-aig"):
-        plain, with_claims = (getattr(library, f"hwtool_{command.replace('-', '_')}{behind}") for behind in ("", "_claims"))
+        call = f"hwtool_{command.replace('-', '_')}{'_fit' if '--fit' in flags else ''}"
+        plain, with_claims = (getattr(library, f"{call}{behind}") for behind in ("", "_claims"))
         return checked(plain, with_claims, first, choice, second, circuit, file, by_name.value)
     if command == "lower":
         return called(library.hwtool_lower, (*first, binary), False, 1, circuit, file)

@@ -33,6 +33,8 @@ LINES: List[Any] = [
     ("check-btor counter.btor2 twice.witness", 1, "malformed line 1: 110 BadHeader",
      {"verdict": "malformed", "unit": "line", "place": 1, "number": 110, "name": "BadHeader"}),
     ("check-btor counter.btor2 unknown.witness", 1, "no claim", {"verdict": "no claim"}),
+    ("check-btor --fit memory.btor2 memory.witness", 0, "accepted 3 frames",
+     {"verdict": "accepted", "frames": 3, "claims": [{"bad": 0, "frame": 2, "id": 17, "symbol": "both"}]}),
     ("check-proof wraps.btor2 wraps.invariant wraps.proof", 0, "holds: b0", {"verdict": "holds", "bad": 0, "id": 11}),
     ("check-proof --aiger --circuit ring.aag ring-witness.aag ring.proof", 0, "holds: b0",
      {"verdict": "holds", "bad": 0, "symbol": "two"}),
@@ -52,8 +54,8 @@ LINES: List[Any] = [
     ("check-btor counter.btor2 -", 4, "words: no line of a list reads standard input",
      {"verdict": "failed", "why": "words: no line of a list reads standard input"}),
 ]
-COUNTS = {"judgements": 17, "accepted": 4, "not_accepted": 7, "refused": 4, "failed": 2, "status": 4}
-SUMMARY = "17 judgements: 4 accepted or hold, 7 not, 4 refused, 2 failed"
+COUNTS = {"judgements": 18, "accepted": 5, "not_accepted": 7, "refused": 4, "failed": 2, "status": 4}
+SUMMARY = "18 judgements: 5 accepted or hold, 7 not, 4 refused, 2 failed"
 
 
 class Trials:
@@ -67,6 +69,7 @@ class Trials:
             (folder / it.name).write_bytes(it.read_bytes())
         for name, text in {
             "never.btor2": NEVER,
+            "memory.witness": "sat\nb0\n@0\n0 00\n1 11111111\n@1\n0 11\n1 11111111\n@2\n.\n",
             "begins-high.witness": "sat\nb0\n#0\n0 1\n@0\n.\n",
             "violates.witness": "sat\nb0\n@0\n.\n",
             "unknown.witness": "unknown\n",

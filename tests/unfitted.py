@@ -11,6 +11,7 @@ which some pieces are left out, is brought back by `unfit` and judged here: the 
 --keep keeps what came out wrong. The status is 0 where nothing did, else 1.
 """
 import argparse
+import json
 import pathlib
 import random
 import re
@@ -119,12 +120,18 @@ class Judge:
         for k in sorted(self.claims):
             if not any(words[model.bads[k][0]] for words in told):
                 return f"not reached: b{k}"
+        self.firsts = {k: next(at for at, words in enumerate(told) if words[model.bads[k][0]]) for k in sorted(self.claims)}
         return f"accepted {len(told)} frames"
 
 
 def judged(model, text):
     """The line that is told of a text."""
-    judge, lines = Judge(model), text.split("\n")
+    return told_of(Judge(model), text)
+
+
+def told_of(judge, text):
+    """The same by a judge, which keeps in which frames the claims of an acceptance are reached first."""
+    lines = text.split("\n")
     for at, line in enumerate(lines[:-1], 1):
         try:
             if judge.take(line):
@@ -219,6 +226,21 @@ def status_of(line):
     return 0 if line.startswith("accepted") else 1
 
 
+def as_object(program, model, said, expected, judge, by):
+    """Compares what is told of claims: in which frames they are reached first, and whether one that is asked for is made."""
+    bad = by.randrange(len(judge.model.bads))
+    asked = ["--bad", str(bad)] if by.random() < 0.5 else []
+    status, out, err = run(program, "check-btor", "--json", "--fit", *asked, model, said)
+    told, is_accepted = json.loads(out), expected.startswith("accepted")
+    verdict = re.match(r"[a-z ]+?(?= \d| line|:|\Z| at \d)", expected)[0]
+    if is_accepted and asked and bad not in judge.firsts:
+        verdict = "not claimed"
+    if (told["verdict"], status, err) != (verdict, status_of(verdict), ""):
+        raise Wrong(f"check-btor --fit --json tells {told} with {status} for {expected!r}")
+    if verdict == "accepted" and {it["bad"]: it["frame"] for it in told["claims"]} != judge.firsts:
+        raise Wrong(f"the claims are told as {told['claims']}, not {judge.firsts}")
+
+
 def tried(program, text, by, folder):
     """Judges, spreads and unfits witnesses of one model; answers what was tried, or raises."""
     model, fitted, said, back = folder / "model.btor2", folder / "fitted.btor2", folder / "said", folder / "back"
@@ -228,10 +250,12 @@ def tried(program, text, by, folder):
     witness = random_witness(by, wide)
     is_spoilt = by.random() < 0.4
     said.write_text(spoilt(by, witness) if is_spoilt else witness)
-    expected = judged(wide, said.read_text())
+    judge = Judge(wide)
+    expected = told_of(judge, said.read_text())
     status, out, err = run(program, "check-btor", "--fit", model, said)
     if (status, one_line(out, "check-btor"), err) != (status_of(expected), expected, ""):
         raise Wrong(f"check-btor --fit tells {out!r}{err!r} with {status} for {expected!r}")
+    as_object(program, model, said, expected, judge, by)
     status, out, err = run(program, "unfit", "--back", model, said)
     if (status, one_line(err, "unfit --back")) != (status_of(expected), expected):
         raise Wrong(f"unfit --back tells {err!r} with {status} for {expected!r}")

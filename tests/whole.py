@@ -11,6 +11,7 @@ judged by `check-btor`, and by `check-btor --fit` as what `unfit` writes of it. 
 otherwise too, and by `check-btor` as what `unfit --back` writes. Spoilt texts have to be refused, or to be models that are fitted right. The status is 0 where nothing was wrong, else 1.
 """
 import argparse
+import json
 import pathlib
 import random
 import subprocess
@@ -344,6 +345,35 @@ def whole_witness(model, told, by):
     return "".join(f"{it}\n" for it in [*lines, "."]), says
 
 
+def compare_claims(program, text, model_file, witness_file, model, told, says):
+    """Compares in which frames claims are told to be reached first, and of which lines of the model."""
+    lines = [line.split(";")[0].split() for line in text.split("\n")]
+    ids = {kind: [int(it[0]) for it in lines if it[1:2] == [kind]] for kind in ("bad", "constraint", "state")}
+    out = subprocess.run([program, "check-btor", "--fit", "--json", model_file, witness_file], capture_output=True, text=True).stdout
+    object_ = json.loads(out)
+    if says == "accepted":
+        firsts = [next((at for at, values in enumerate(told) if model.of(values, it)), None) for it, _ in model.bads]
+        expected = [(k, at, ids["bad"][k]) for k, at in enumerate(firsts) if at is not None]
+        claims = [(it["bad"], it["frame"], it["id"]) for it in object_["claims"]]
+        if (object_["verdict"], object_["frames"], claims) != ("accepted", len(told), expected):
+            raise Wrong(f"claims are told as {out}, not {expected}")
+    elif says == "violated":
+        if object_["verdict"] != "violated" or object_["id"] != ids["constraint"][object_["constraint"]]:
+            raise Wrong(f"a constraint is told as {out}")
+    elif object_["verdict"] != "initial value differs" or object_["id"] != ids["state"][int(says.split()[-1])]:
+        raise Wrong(f"a state is told as {out}, not {says}")
+
+
+def compare_shown(program, text, folder, fitted):
+    """Compares what `show --fit` writes of a model: it is fitted as the model is, and written as it stands."""
+    shown = subprocess.run([program, "show", "--fit", "-"], input=text, capture_output=True, text=True)
+    written, _, counts = shown.stdout.rstrip("\n").rpartition("\n")
+    again = subprocess.run([program, "show", "--fit", "-"], input=written + "\n", capture_output=True, text=True)
+    other = subprocess.run([program, "fit", "-"], input=written + "\n", capture_output=True, text=True)
+    if (shown.returncode, counts[:2], again.stdout, other.stdout) != (0, "; ", shown.stdout, fitted):
+        raise Wrong(f"show --fit writes {shown.stdout}{shown.stderr}")
+
+
 def tried(program, text, by, folder, is_spoilt):
     """Fits one model, and compares; answers what was tried, or raises."""
     path, fitted = folder / "model.btor2", folder / "fitted.btor2"
@@ -367,6 +397,8 @@ def tried(program, text, by, folder, is_spoilt):
         raise Wrong("a sort is above 64 bits")
     chosen, inputs, free, told, whole_told, is_alone = compare(model, narrow, by)
     fitted.write_text(done.stdout)
+    if by.random() < 0.25:
+        compare_shown(program, text, folder, done.stdout)
     if by.random() < 0.5:
         said, says = whole_witness(model, whole_told, by)
         if said is not None:
@@ -374,6 +406,7 @@ def tried(program, text, by, folder, is_spoilt):
             judged = subprocess.run([program, "check-btor", "--fit", path, folder / "witness"], capture_output=True, text=True)
             if not judged.stdout.startswith(says):
                 raise Wrong(f"its witness is told as {judged.stdout}{judged.stderr}, not {says}")
+            compare_claims(program, text, path, folder / "witness", model, whole_told, says)
             back = subprocess.run([program, "unfit", "--back", path, folder / "witness"], capture_output=True, text=True)
             if back.stderr != judged.stdout:
                 raise Wrong(f"unfit --back tells {back.stderr}, not {judged.stdout}")

@@ -50,7 +50,7 @@ from ._calls import (
 )
 from ._refusals import Case, Refused, explain, name
 
-__version__ = "0.14.0"
+__version__ = "0.15.0"
 
 # so is it told where nobody catches it
 Refused.__module__ = __name__

@@ -28,7 +28,7 @@ Text = Union[bytes, bytearray, memoryview, str, "os.PathLike[str]", "os.PathLike
 """A text: its bytes, or the path of its file. A `str` is a path."""
 
 # The calls that judge a witness of each kind of text.
-_JUDGES = {"model": "hwtool_check_btor_claims", "circuit": "hwtool_check_aig_claims"}
+_JUDGES = {"model": "hwtool_check_btor_claims", "fitted": "hwtool_check_btor_fit_claims", "circuit": "hwtool_check_aig_claims"}
 
 # The refusal of an obligation that is too big, which is told of the invariant as a whole.
 _TOO_MANY_CUBES = 196
@@ -119,11 +119,11 @@ def _verdict(raw: RawVerdict, of_circuit: bool, claims: Sequence[RawClaim]) -> V
 
 
 def _judged(kind: str, first: _Given, witness: bytes, bad: Optional[SupportsIndex] = None) -> Tuple[RawVerdict, List[RawClaim]]:
-    """Judges a witness of a model or of a circuit, of a bad property where one is asked for."""
+    """Judges a witness of a model, of one that is fitted, or of a circuit, of a bad property where one is asked for."""
     verdict = RawVerdict()
     status, refusal, claims = claimed(_JUDGES[kind], [*first.words, *_choice(bad), witness, len(witness)], verdict)
     if status != DONE:
-        _refuse(status, refusal, kind, first)
+        _refuse(status, refusal, "circuit" if kind == "circuit" else "model", first)
     return verdict, claims
 
 
@@ -173,16 +173,13 @@ def fit(model: Text) -> bytes:
     return text
 
 
-def check_btor_fit(model: Text, witness: Text) -> Verdict:
-    """Judges a witness of a BTOR2 model of the whole language; the verdict has no claims.
+def check_btor_fit(model: Text, witness: Text, *, bad: Optional[SupportsIndex] = None) -> Verdict:
+    """Judges a witness of a BTOR2 model of the whole language, as `check_btor` does.
 
-    Raises Refused where the model is none that `fit` takes.
+    Raises Refused where the model is none that `fit` takes, or has no bad property at the position `bad`.
     """
-    first, second, verdict = _Given(model), _Given(witness), RawVerdict()
-    status, refusal = call("hwtool_check_btor_fit", [*first.words, *second.words], ctypes.byref(verdict))
-    if status != DONE:
-        _refuse(status, refusal, "model", first)
-    return _verdict(verdict, False, ())
+    verdict, claims = _judged("fitted", _Given(model), _Given(witness).bytes, bad)
+    return _verdict(verdict, False, claims)
 
 
 def _unfitted(call_name: str, first: _Given, given: List[object], witness: _Given) -> Unfitted:

@@ -56,6 +56,7 @@ _CALLS = {
     "hwtool_lower": [*_TEXT, ctypes.c_bool, *_BUFFER, *_REFUSAL],
     "hwtool_fit": [*_TEXT, *_BUFFER, *_REFUSAL],
     "hwtool_check_btor_fit": [*_TEXT, *_TEXT, *_VERDICT, *_REFUSAL],
+    "hwtool_check_btor_fit_claims": [*_TEXT, ctypes.c_bool, ctypes.c_size_t, *_TEXT, *_VERDICT, *_CLAIMS, *_REFUSAL],
     "hwtool_unfit": [*_TEXT, ctypes.c_bool, *_TEXT, *_VERDICT, *_BUFFER, *_REFUSAL],
     "hwtool_unfit_back": [*_TEXT, *_TEXT, *_VERDICT, *_BUFFER, *_REFUSAL],
     "hwtool_cost": [*_TEXT, *_COUNT, *_COUNT, *_REFUSAL],

@@ -47,11 +47,9 @@ def answer(command, flags, bad, files, names):
     """What a call answers in place of the program: status, standard output, standard error."""
     binary = "--binary" in flags
     try:
-        if command == "check-btor" and "--fit" in flags:
-            verdict = hwtool.check_btor_fit(*files)
-            return 0 if verdict.accepted else 1, f"{verdict}\n".encode(), b""
         if command in ("check-btor", "check-aig"):
-            verdict = (hwtool.check_btor if command == "check-btor" else hwtool.check_aig)(*files, bad=bad)
+            judge = hwtool.check_aig if command == "check-aig" else hwtool.check_btor_fit if "--fit" in flags else hwtool.check_btor
+            verdict = judge(*files, bad=bad)
             return 0 if verdict.accepted else 1, f"{verdict}\n".encode(), reached(verdict, flags).encode()
         # without a choice the only bad property is meant
         if command == "check-proof":

@@ -66,6 +66,9 @@ static void fit(struct answer *a) { a->status = hwtool_fit(LITERAL(WIDE), INTO);
 static void check_btor_fit(struct answer *a) {
     a->status = hwtool_check_btor_fit(LITERAL(WIDE), LITERAL(WIDE_WITNESS), &a->verdict, &a->refusal);
 }
+static void check_btor_fit_claims(struct answer *a) {
+    a->status = hwtool_check_btor_fit_claims(LITERAL(WIDE), true, 0, LITERAL(WIDE_WITNESS), &a->verdict, CLAIMS_INTO);
+}
 static void unfit(struct answer *a) { a->status = hwtool_unfit(LITERAL(WIDE), true, LITERAL(PIECES), &a->verdict, INTO); }
 static void unfit_back(struct answer *a) { a->status = hwtool_unfit_back(LITERAL(WIDE), LITERAL(WIDE_WITNESS), &a->verdict, INTO); }
 static void cost(struct answer *a) { a->status = hwtool_cost(OF(MODEL), &a->gates, &a->variables, &a->refusal); }
@@ -117,7 +120,7 @@ static const struct {
     {"lift_engine", lift_engine}, {"lift_engine_abc", lift_engine_abc}, {"obligation_aig", obligation_aig},
     {"check_proof_aig", check_proof_aig}, {"obligation_circuit", obligation_circuit},
     {"check_proof_circuit", check_proof_circuit}, {"check_btor_claims", check_btor_claims},
-    {"check_aig_claims", check_aig_claims},
+    {"check_aig_claims", check_aig_claims}, {"check_btor_fit_claims", check_btor_fit_claims},
 };
 
 static struct answer ample, before, now;

@@ -2,13 +2,14 @@
 use Rattle.std.proofs.Common.{arith, ◌≡◌, ◌<◌, ◌+◌, ◌^◌, ◌++◌, ◌∷◌, ◌∙◌, ℕ, zero, suc, Bool, true, false, List, [], length, drop, Option, Some, option_and_then, slice_get, decimal, append_assoc, refl, sym, ap, subst}
 use Rattle.base.specs.Decimals.{number_of}
 use Rattle.verbs.specs.Asked.{AsksFor, IsAskedBy}
-use Rattle.verbs.specs.Judging.{IsJudgedFor, IsJudgedOverFor}
+use Rattle.verbs.specs.Judging.{IsJudgedFor, IsJudgedOverFor, IsJudgedWholeFor}
 use Rattle.verbs.specs.declared.judging.JudgedOverCircuit.{JudgedOverCircuit}
 use Rattle.verbs.specs.declared.judging.JudgedOverModel.{JudgedOverModel}
+use Rattle.verbs.specs.declared.judging_whole.JudgedOverWhole.{JudgedOverWhole}
 use Rattle.capi.specs.Answers.{outcome_verdict_of}
 use Rattle.capi.specs.Buffers.{Fills, Needs}
 use Rattle.capi.specs.Flags.{choice_of, word_asked}
-use Rattle.capi.specs.Judged.{CallJudgesFor, CallJudgesOverFor, claim_of, claims_from, told_claims}
+use Rattle.capi.specs.Judged.{CallJudgesFor, CallJudgesOverFor, CallJudgesWholeFor, claim_of, claims_from, told_claims}
 use Rattle.capi.specs.declared.answers.Claim.{Claim}
 use Rattle.capi.specs.declared.answers.Verdict.{Verdict}
 
@@ -47,6 +48,13 @@ pub judges_for : (chosen : Bool) (bad : ℕ) (model witness : List ℕ) (word : 
     → CallJudgesFor chosen bad model witness verdict list
 judges_for chosen bad model witness word answer told verdict list read small spelled judged tells same listed =
     let is : IsJudgedFor (word_asked chosen bad) (Some model) (Some witness) answer = subst (λ (w : Option (List ℕ)). IsJudgedFor w (Some model) (Some witness) answer) spelled judged in
+    record { answer = answer; is = is; for_choice = asked_position chosen bad _ _ is.claim read small is.asked; told = same ∙ tells; listed = listed ∙ ap (λ (v : Verdict). told_claims v answer.firsts) (sym same) }
+
+pub judges_whole_for : (chosen : Bool) (bad : ℕ) (model witness : List ℕ) (word : Option (List ℕ)) (answer : JudgedOverWhole) (told verdict : Verdict) (list : List Claim)
+    → ReadsDecimals → bad < 2 ^ 64 → word ≡ word_asked chosen bad → IsJudgedWholeFor word (Some model) (Some witness) answer → told ≡ outcome_verdict_of answer.outcome → verdict ≡ told → list ≡ told_claims told answer.firsts
+    → CallJudgesWholeFor chosen bad model witness verdict list
+judges_whole_for chosen bad model witness word answer told verdict list read small spelled judged tells same listed =
+    let is : IsJudgedWholeFor (word_asked chosen bad) (Some model) (Some witness) answer = subst (λ (w : Option (List ℕ)). IsJudgedWholeFor w (Some model) (Some witness) answer) spelled judged in
     record { answer = answer; is = is; for_choice = asked_position chosen bad _ _ is.claim read small is.asked; told = same ∙ tells; listed = listed ∙ ap (λ (v : Verdict). told_claims v answer.firsts) (sym same) }
 
 pub judges_over_for : (chosen : Bool) (bad : ℕ) (circuit witness : List ℕ) (word : Option (List ℕ)) (answer : JudgedOverCircuit) (told verdict : Verdict) (list : List Claim)

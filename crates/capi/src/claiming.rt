@@ -1,9 +1,9 @@
 //! The calls that judge witnesses and tell of the claims of those that are accepted.
 ghost use Rattle.std.specs.Prelude.{◌≡◌, ◌≤◌, ◌++◌, Some, IfOk, OnOk};
-ghost use Rattle.verbs.specs.Asked.{IsNotJudgedOverWith, IsNotJudgedWith};
+ghost use Rattle.verbs.specs.Asked.{IsNotFittedWith, IsNotJudgedOverWith, IsNotJudgedWith};
 ghost use Rattle.capi.specs.Buffers.{Fills, Needs};
 ghost use Rattle.capi.specs.Flags.{word_asked};
-ghost use Rattle.capi.specs.Judged.{CallJudgesFor, CallJudgesOverFor, claim_of, claims_from, told_claims};
+ghost use Rattle.capi.specs.Judged.{CallJudgesFor, CallJudgesOverFor, CallJudgesWholeFor, claim_of, claims_from, told_claims};
 ghost use Rattle.capi.specs.Stops.{Stops};
 
 use crate::answers::{Claim, NO_MEMORY, Refusal, Verdict, tell};
@@ -13,7 +13,7 @@ use base::laws::decimals_are_numbers;
 use itoa::Buffer;
 use rises::FirstRises;
 use std::alloc::{AllocError, Global};
-use verbs::{judge_for_circuit, judge_for_model};
+use verbs::{judge_fitted_for, judge_for_circuit, judge_for_model};
 
 /// Puts a claim behind others, where it is reached.
 fn push_claim(claims: &mut Vec<Claim>, bad: u64, first: Option<u64>) -> Result<(), AllocError>
@@ -116,6 +116,47 @@ pub extern "C" fn hwtool_check_btor_claims(
     let word = word_asked(&mut buffer, chosen, bad);
     let (mut first, mut second) = (model, witness);
     match judge_for_model(alloc, word, &mut first, &mut second) {
+        Ok(judged) => {
+            let told = Verdict::of_outcome(&judged.outcome);
+            tell_claims(alloc, told, &judged.firsts, verdict, claims, needed)
+        }
+        Err(against) => tell(against, refusal),
+    }
+}
+
+/// The same over the text of a BTOR2 model of the whole language, as `hwtool_check_btor_fit` judges.
+///
+/// Answers as `hwtool_check_btor_claims`, but 2 where the first text is no model of the whole language; and 3 where there is no bad
+/// property at the chosen position, or where the model is not written out, or not fitted, with the number of what speaks against it first
+/// and the id of its item.
+#[unsafe(no_mangle)]
+pub extern "C" fn hwtool_check_btor_fit_claims(
+    alloc: Global,
+    model: &[u8],
+    chosen: bool,
+    bad: usize,
+    witness: &[u8],
+    verdict: &mut Verdict,
+    claims: &mut [Claim],
+    needed: &mut usize,
+    refusal: &mut Refusal,
+) -> u32
+    ensures done { result ≡ 0 → Fills (CallJudgesWholeFor chosen bad model.now witness.now verdict.new)
+        claims.old claims.new needed.new }
+    ensures small { result ≡ 1 → Needs (CallJudgesWholeFor chosen bad model.now witness.now verdict.new)
+        claims.old claims.new needed.new }
+    ensures stops { 2 ≤ result → Stops (IsNotFittedWith (word_asked chosen bad) (Some model.now))
+        (λ _. ⊥) result refusal.old refusal.new }
+    ensures statuses { result ≤ 5 }
+    ensures unwritten { 2 ≤ result → (verdict.new ≡ verdict.old)
+        × ((claims.new ≡ claims.old) × (needed.new ≡ needed.old)) }
+    ensures refusal_stays { result ≤ 1 → refusal.new ≡ refusal.old }
+{
+    decimals_are_numbers();
+    let mut buffer = Buffer::new();
+    let word = word_asked(&mut buffer, chosen, bad);
+    let (mut first, mut second) = (model, witness);
+    match judge_fitted_for(alloc, word, &mut first, &mut second) {
         Ok(judged) => {
             let told = Verdict::of_outcome(&judged.outcome);
             tell_claims(alloc, told, &judged.firsts, verdict, claims, needed)

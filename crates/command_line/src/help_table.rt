@@ -72,7 +72,7 @@ struct HelpLine {
 }
 
 /// What help says of words; of those of a name the first that is of the command.
-static HELPS: [HelpLine; 42] = [
+static HELPS: [HelpLine; 43] = [
     HelpLine {
         name: "MODEL",
         verbs: &[],
@@ -197,6 +197,11 @@ static HELPS: [HelpLine; 42] = [
         name: "fit",
         verbs: &[Verb::CheckBtor],
         text: "Take what fit takes, a model of the whole language; the witness is one of it",
+    },
+    HelpLine {
+        name: "fit",
+        verbs: &[Verb::Show],
+        text: "Take a model of the whole language, with words of any width and arrays",
     },
     HelpLine {
         name: "fit",

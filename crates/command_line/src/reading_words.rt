@@ -61,7 +61,7 @@ fn arg_of<'a>(alloc: Global, verb: Verb, word: &'a Word) -> Result<Arg<'a>, Allo
     let arg = Arg::new(alloc, word.name).help(help(verb, word.name));
     match word.kind {
         Kind::File => Ok(arg.required(true).action(ArgAction::Set)),
-        Kind::Flag | Kind::FlagAlone | Kind::FlagOnModel => Ok(
+        Kind::Flag | Kind::FlagWithoutNames | Kind::FlagOnModel => Ok(
             arg.long(word.name).action(ArgAction::SetTrue),
         ),
         Kind::FlagWithCircuit => flag_with(arg, word.name, CIRCUIT),

@@ -20,9 +20,6 @@ const LIST_WITHIN: &str = "words: a list has no list within it\n";
 /// What is told of words that choose both forms of a circuit.
 const TWO_FORMS: &str = "words: choose one form\n";
 
-/// What is told of words that judge by the fitted model and ask for more than the line.
-const FIT_TELLS: &str = "words: --fit goes with none of --names, --bad and --json\n";
-
 /// What is told of words that ask for names in a witness that has none.
 const BACK_NAMES: &str = "words: --back goes without --names\n";
 
@@ -55,20 +52,13 @@ fn refusal_of_value(word: Word, words: &ArgMatches<'_>) -> Option<&'static str> 
     }
 }
 
-/// The line that refuses a flag that goes with none of some others, where one of them is given.
-fn refusal_of_flag(verb: Verb, word: Word, words: &ArgMatches<'_>) -> Option<&'static str> {
-    if word.kind == Kind::FlagOnModel && words.get_flag(word.name) && words.get_flag("aiger") {
-        return Some(FIT_CIRCUIT);
-    }
-    if word.kind != Kind::FlagAlone || !words.get_flag(word.name) {
-        return None;
-    }
-    if !words.get_flag("names") && !words.get_flag("json") && words.get_str("bad").is_none() {
-        return None;
-    }
-    match verb {
-        Verb::CheckBtor => Some(FIT_TELLS),
-        _ => Some(BACK_NAMES),
+/// The line that refuses a flag that does not go with another, where that is given.
+fn refusal_of_flag(word: Word, words: &ArgMatches<'_>) -> Option<&'static str> {
+    let with = |other| words.get_flag(word.name) && words.get_flag(other);
+    match word.kind {
+        Kind::FlagOnModel if with("aiger") => Some(FIT_CIRCUIT),
+        Kind::FlagWithoutNames if with("names") => Some(BACK_NAMES),
+        _ => None,
     }
 }
 
@@ -92,7 +82,7 @@ pub(crate) fn refusal_of(verb: Verb, words: &ArgMatches<'_>) -> &'static str {
         if let Some(line) = refusal_of_value(*word, words) {
             return line;
         }
-        if let Some(line) = refusal_of_flag(verb, *word, words) {
+        if let Some(line) = refusal_of_flag(*word, words) {
             return line;
         }
     }

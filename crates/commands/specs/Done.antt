@@ -8,10 +8,10 @@ use Rattle.verbs.specs.Fitting.{WritesFitting}
 use Rattle.verbs.specs.Outputs.{ConvertsOutputs, ConvertsOutputsForEngines}
 use Rattle.subcommands.specs.declared.answers.Answer.{Answer}
 use Rattle.subcommands.specs.declared.answers.Answer.TheVariants as answer
-use Rattle.subcommands.specs.Asked.{ChecksCircuit, ChecksModel}
+use Rattle.subcommands.specs.Asked.{ChecksCircuit, ChecksFitted, ChecksModel}
 use Rattle.subcommands.specs.Certificates.{CertifiesWith, WritesOwed}
-use Rattle.subcommands.specs.Done.{Compares, Dumps, Judged, ShowsModel, TellsCost, TellsCostFitted, Tidies}
-use Rattle.subcommands.specs.Fitted.{Spreads, Unfits, WritesJudgedFitted}
+use Rattle.subcommands.specs.Done.{Compares, Dumps, Judged, ShowsModel, ShowsWhole, TellsCost, TellsCostFitted, Tidies}
+use Rattle.subcommands.specs.Fitted.{Spreads, Unfits}
 use Rattle.subcommands.specs.Restoring.{Lifts, LiftsForm, LiftsFound, Restores, RestoresForm}
 use Rattle.invocation.specs.declared.tasks.CertificateTask.TheVariants as certificate
 use Rattle.invocation.specs.declared.tasks.CircuitTask.TheVariants as circuit
@@ -46,6 +46,7 @@ Answers o (task.Model model.LowerFitted) answer.Done first second third before n
 Answers o (task.Model (model.LowerFittedForEngines choice)) answer.Done first second third before now told told' = WritesFittedForm first before now o.form choice
 Answers o (task.Model model.CheckBtor) a first second third before now told told' = ChecksModel o.named o.as_json (asked_of o) first second before now told told' a
 Answers o (task.Model model.Show) answer.Done first second third before now told told' = ShowsModel first before now
+Answers o (task.Model model.ShowWhole) answer.Done first second third before now told told' = ShowsWhole first before now
 Answers o (task.Model model.Cost) answer.Done first second third before now told told' = TellsCost first before now
 Answers o (task.Model model.CostFitted) answer.Done first second third before now told told' = TellsCostFitted first before now
 Answers o (task.Circuit circuit.AigConvert) answer.Done first second third before now told told' = Rewrites first before now o.form
@@ -56,7 +57,7 @@ Answers o (task.Text (text.TidyWitness pick)) answer.Done first second third bef
 Answers o (task.Circuit circuit.CheckAig) a first second third before now told told' = ChecksCircuit o.named o.as_json (asked_of o) first second before now told told' a
 Answers o (task.Model model.Lift) a first second third before now told told' = Lifts o.named first second before now told told' a
 Answers o (task.Model (model.Wave shown)) a first second third before now told told' = Judged (Dumps shown first second before now told told') a
-Answers o (task.Model model.CheckFitted) a first second third before now told told' = WritesJudgedFitted first second before now a
+Answers o (task.Model model.CheckFitted) a first second third before now told told' = ChecksFitted o.named o.as_json (asked_of o) first second before now told told' a
 Answers o (task.Model model.Unfit) a first second third before now told told' = Unfits o.named first second before now told told' a
 Answers o (task.Model model.Spread) a first second third before now told told' = Spreads first second before now told told' a
 Answers o (task.Circuit (circuit.Restore choice)) a first second third before now told told' = Restores choice first second before now told told' a
@@ -100,6 +101,7 @@ is_quiet named (task.Model (model.Wave shown)) = false
 is_quiet named (task.Model model.Unfit) = false
 is_quiet named (task.Model model.Spread) = false
 is_quiet named (task.Model model.CheckBtor) = not named
+is_quiet named (task.Model model.CheckFitted) = not named
 is_quiet named (task.Circuit circuit.CheckAig) = not named
 is_quiet named (task.Certificate (certificate.CheckProof of form)) = not named
 is_quiet named _ = true

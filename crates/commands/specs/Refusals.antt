@@ -9,8 +9,8 @@ use Rattle.invocation.specs.declared.tasks.Task.TheVariants as task
 use Rattle.invocation.specs.declared.tasks.TextTask.TheVariants as text
 use Rattle.verbs.specs.declared.refusals.Claimed.TheVariants as claimed
 use Rattle.verbs.specs.declared.refusals.Fault.{Fault}
-use Rattle.verbs.specs.Asked.{IsNotJudgedOverWith, IsNotJudgedWith}
-use Rattle.verbs.specs.Fitting.{IsNotFitted}
+use Rattle.verbs.specs.Asked.{IsNotFittedWith, IsNotJudgedOverWith, IsNotJudgedWith}
+use Rattle.verbs.specs.Fitting.{IsNotFitted, IsNoWholeModel}
 use Rattle.verbs.specs.Refusals.{IsFaultyCertificate, IsNoCircuit, IsNoModel, IsNoVectorList, IsNotCertifiable, IsNotClaimable, IsNotClaimed, IsNotForEngines, IsNotGiven, IsNotJudged, IsNotLowered}
 use Rattle.verbs.specs.Outputs.{IsNotWithOutputs, IsNotWithOutputsForEngines}
 
@@ -23,6 +23,7 @@ RefusesTask (task.Model model.LowerFitted) asked known f = IsNotGiven given.Fitt
 RefusesTask (task.Model (model.LowerFittedForEngines choice)) asked known f = IsNotForEngines given.Fitted choice known f
 RefusesTask (task.Model model.CheckBtor) asked known f = IsNotJudgedWith asked known f
 RefusesTask (task.Model model.Show) asked known f = IsNoModel known f
+RefusesTask (task.Model model.ShowWhole) asked known f = IsNoWholeModel known f
 RefusesTask (task.Model model.Cost) asked known f = IsNoModel known f
 RefusesTask (task.Model model.CostFitted) asked known f = IsNotFitted known f
 RefusesTask (task.Circuit circuit.AigConvert) asked known f = IsNoCircuit known f
@@ -36,7 +37,7 @@ RefusesTask (task.Circuit (circuit.RestoreForm choice)) asked known f = IsNotFor
 RefusesTask (task.Model (model.LiftFound choice)) asked known f = IsNotClaimed claimed.Found given.Model choice known f
 RefusesTask (task.Model (model.LiftForm choice)) asked known f = IsNotForEngines given.Model choice known f
 RefusesTask (task.Model (model.Wave shown)) asked known f = IsNotJudged known f
-RefusesTask (task.Model model.CheckFitted) asked known f = IsNotFitted known f
+RefusesTask (task.Model model.CheckFitted) asked known f = IsNotFittedWith asked known f
 RefusesTask (task.Model model.Unfit) asked known f = IsNotFitted known f
 RefusesTask (task.Model model.Spread) asked known f = IsNotFitted known f
 RefusesTask (task.Text (text.TidyWitness pick)) asked known f = ⊥

@@ -19,11 +19,11 @@ use blast::Watch;
 use invocation::{CertificateTask, CircuitTask, DEVICE, ModelTask, Order, Task, TextTask};
 use std::alloc::Global;
 use subcommands::{
-    Answer, answered, check_circuit, check_circuit_with, check_fitted, check_model,
-    check_model_with, check_proof, compare_vectors, dump_witness, lift_counterexample,
-    lift_form_witness, lift_witness, restore_counterexample, restore_witness, show, spread_witness,
-    tell, tell_cost, tell_cost_fitted, tidy_witness, unfit_witness, write_obligation,
-    write_refusal,
+    Answer, answered, check_circuit, check_circuit_with, check_fitted, check_fitted_with,
+    check_model, check_model_with, check_proof, compare_vectors, dump_witness, lift_counterexample,
+    lift_form_witness, lift_witness, restore_counterexample, restore_witness, show, show_whole,
+    spread_witness, tell, tell_cost, tell_cost_fitted, tidy_witness, unfit_witness,
+    write_obligation, write_refusal,
 };
 use verbs::{
     Device, Refusal, convert, convert_for_engines, convert_outputs, convert_outputs_for_engines,
@@ -303,6 +303,7 @@ fn obey_on_model<A: Source, B: Source, O: Sink, E: Sink, W: Watch>(
         )),
         ModelTask::CheckBtor => judge_on_model(alloc, order, first, second, out, err),
         ModelTask::Show => show(alloc, first, out),
+        ModelTask::ShowWhole => show_whole(alloc, first, out),
         ModelTask::Cost => tell_cost(alloc, first, out),
         ModelTask::CostFitted => tell_cost_fitted(alloc, first, out),
         ModelTask::Lift => lift_witness(alloc, order.named, first, second, out, err, watch),
@@ -313,7 +314,7 @@ fn obey_on_model<A: Source, B: Source, O: Sink, E: Sink, W: Watch>(
             lift_form_witness(alloc, order.named, choice, first, second, out, err, watch)
         }
         ModelTask::Wave(shown) => dump_witness(alloc, order, shown, first, second, out, err),
-        ModelTask::CheckFitted => check_fitted(alloc, first, second, out),
+        ModelTask::CheckFitted => judge_on_fitted(alloc, order, first, second, out, err),
         ModelTask::Unfit => unfit_witness(alloc, order.named, first, second, out, err),
         ModelTask::Spread => spread_witness(alloc, first, second, out, err),
     }
@@ -354,6 +355,33 @@ fn judge_on_model<A: Source, B: Source, O: Sink, E: Sink>(
         return check_model(alloc, first, second, out);
     }
     check_model_with(alloc, order, first, second, out, err)
+}
+
+/// Judges a witness over a model of the whole language.
+#[tactic(auto, unfolding(crate::specs::Done::Answers, crate::specs::Done::is_quiet, crate::specs::Refusals::RefusesTask))]
+fn judge_on_fitted<A: Source, B: Source, O: Sink, E: Sink>(
+    alloc: Global,
+    order: &Order<'_>,
+    first: &mut A,
+    second: &mut B,
+    out: &mut O,
+    err: &mut E,
+) -> Result<Answer, Refusal>
+    ensures done { (third : Option (List ℕ))
+        → IfOk result (λ answer. Answers order.now (task_is.Model model_is.CheckFitted) answer
+        (A.to_come first.old) (B.to_come second.old) third (O.written out.old)
+        (O.written out.new) (E.written err.old) (E.written err.new)) }
+    ensures refused { IfErr result (IfInput (RefusesTask (task_is.Model model_is.CheckFitted)
+        (asked_of order.now) (A.to_come first.old))) }
+    ensures ends { Ends result (Used A.failures first.old first.new)
+        (Used B.failures second.old second.new) (Used O.failures out.old out.new)
+        (Used E.failures err.old err.new) }
+    ensures quiet { order.now.named ≡ false → err.new ≡ err.old }
+{
+    if is_plain(order) {
+        return check_fitted(alloc, first, second, out);
+    }
+    check_fitted_with(alloc, order, first, second, out, err)
 }
 
 /// Does a command on a circuit.

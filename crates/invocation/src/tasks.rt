@@ -63,6 +63,8 @@ pub enum ModelTask {
     CheckBtor,
     /// Writes its text in the writer's form.
     Show,
+    /// The same, where it may be one of the whole language.
+    ShowWhole,
     /// Tells how many gates and variables its lowering has at most.
     Cost,
     /// Fits it, where it is one of the whole language, and tells the same of that.

@@ -37,6 +37,7 @@ has_judgement (w ∷ ws) = not (begins_comment w)
 -- the commands that a line may have
 abbrev pub is_judgement : Task → Bool
 is_judgement (task.Model model.CheckBtor) = true
+is_judgement (task.Model model.CheckFitted) = true
 is_judgement (task.Circuit circuit.CheckAig) = true
 is_judgement (task.Certificate (certificate.CheckProof of form)) = true
 is_judgement _ = false

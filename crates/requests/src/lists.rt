@@ -91,7 +91,7 @@ fn is_judgement(task: Task) -> bool
 {
     matches!(
         task,
-        Task::Model(ModelTask::CheckBtor)
+        Task::Model(ModelTask::CheckBtor | ModelTask::CheckFitted)
             | Task::Circuit(CircuitTask::CheckAig)
             | Task::Certificate(CertificateTask::CheckProof(..))
     )

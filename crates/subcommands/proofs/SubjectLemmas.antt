@@ -1,22 +1,7 @@
 -- What is said of what a judgement is about.
 use Rattle.std.proofs.Common.{◌≡◌, ℕ, zero, suc, Bool, List, [], ◌∷◌, ◌++◌, ◌+◌, ◌<◌, drop, Option, Some, None, Result, Ok, Err, OnOk, length, append_assoc, option_and_then, slice_get, refl, sym, ap, subst, ◌∙◌, arith}
 use Rattle.std.specs.Io.KnownBytes.{Appends}
-use Rattle.btor2.specs.declared.item.Item.{Item}
-use Rattle.btor2.specs.declared.item.Body.{Body}
-use Rattle.btor2.specs.Lists.{places}
-use Rattle.subcommands.specs.Subjects.{first_said, firsts_said, says_item}
-use Rattle.verbs.specs.Subjects.{numbered_item}
-use Rattle.verbs.proofs.SubjectLemmas.{numbered}
-
--- ---- the item with a number
-
-pub says_some : (kind : List ℕ) (test : Body → Bool) (items : List Item) (list : List ℕ) (k place : ℕ) (x : Item) → list ≡ places test 0 items → slice_get list k ≡ Some place → slice_get items place ≡ Some x
-    → says_item kind k (numbered_item test items k) ≡ says_item kind k (Some x)
-says_some kind test items list k place x e at own = ap (says_item kind k) (numbered test items list k e ∙ ap (option_and_then (slice_get items)) at ∙ own)
-
-pub says_none : (kind : List ℕ) (test : Body → Bool) (items : List Item) (list : List ℕ) (k : ℕ) (o : Option ℕ) → list ≡ places test 0 items → slice_get list k ≡ o → option_and_then (slice_get items) o ≡ None
-    → says_item kind k (numbered_item test items k) ≡ []
-says_none kind test items list k o e at none = ap (says_item kind k) (numbered test items list k e ∙ ap (option_and_then (slice_get items)) at ∙ none)
+use Rattle.subcommands.specs.Subjects.{first_said, firsts_said}
 
 -- ---- first rises
 

@@ -6,11 +6,14 @@ use Rattle.subcommands.specs.declared.answers.Answer.TheVariants as answer
 use Rattle.verbs.specs.declared.outcomes.Outcome.{Outcome}
 use Rattle.verbs.specs.declared.outcomes.Outcome.TheVariants as outcome_is
 use Rattle.subcommands.specs.Done.{IsSo, WritesJudged, WritesJudgedOver, judgement_line}
-use Rattle.subcommands.specs.Objects.{Names, circuit_names, model_names, outcome_object}
-use Rattle.subcommands.specs.Subjects.{bad_item_said, bad_name_said, item_line, name_said, said_by_name, where_named}
+use Rattle.subcommands.specs.Fitted.{WritesJudgedFitted}
+use Rattle.subcommands.specs.Objects.{Names, circuit_names, line_names, outcome_object}
+use Rattle.subcommands.specs.Subjects.{bad_line_said, bad_name_said, line_judged, name_said, said_by_name, where_named}
 use Rattle.std.specs.Io.KnownBytes.{Appends}
-use Rattle.verbs.specs.Judging.{IsJudgedFor, IsJudgedOverFor}
+use Rattle.verbs.specs.Judging.{IsJudgedFor, IsJudgedOverFor, IsJudgedWholeFor}
+use Rattle.verbs.specs.Subjects.{model_told, whole_told}
 use Rattle.verbs.specs.declared.judging.JudgedOverCircuit.{JudgedOverCircuit}
+use Rattle.verbs.specs.declared.judging_whole.JudgedOverWhole.{JudgedOverWhole}
 use Rattle.verbs.specs.declared.judging.JudgedOverModel.{JudgedOverModel}
 
 -- ---- what is told
@@ -38,14 +41,20 @@ IsSoOf answer.NotAccepted (outcome_is.Unclaimed k) = Unit {0}
 
 -- ---- what is done
 
--- ---- what is done
-
 -- A witness over a model is judged, of which a word may ask for a bad property; what was written tells it, in a line or as an object; what was told says so by name, where names are asked for; and it is answered whether the witness is accepted and claims what is asked for.
 pub record IsJudgedWith (named as_json : Bool) (word : Option (List ℕ)) (model witness before now told told' : Option (List ℕ)) (a : Answer) : Type 0 where
   pub answer : JudgedOverModel
   pub is_judged : IsJudgedFor word model witness answer
-  pub written : Appends before now (outcome_written as_json (model_names answer.model) answer.firsts answer.outcome)
-  pub subject : Appends told told' (where_named named (outcome_said (item_line answer.model) (bad_item_said answer.model) answer.firsts answer.outcome))
+  pub written : Appends before now (outcome_written as_json (line_names (model_told answer.model)) answer.firsts answer.outcome)
+  pub subject : Appends told told' (where_named named (outcome_said (line_judged (model_told answer.model)) (bad_line_said (model_told answer.model)) answer.firsts answer.outcome))
+  pub so : IsSoOf a answer.outcome
+
+-- The same over a model of the whole language.
+pub record IsJudgedFittedWith (named as_json : Bool) (word : Option (List ℕ)) (model witness before now told told' : Option (List ℕ)) (a : Answer) : Type 0 where
+  pub answer : JudgedOverWhole
+  pub is_judged : IsJudgedWholeFor word model witness answer
+  pub written : Appends before now (outcome_written as_json (line_names (whole_told answer.model)) answer.firsts answer.outcome)
+  pub subject : Appends told told' (where_named named (outcome_said (line_judged (whole_told answer.model)) (bad_line_said (whole_told answer.model)) answer.firsts answer.outcome))
   pub so : IsSoOf a answer.outcome
 
 -- The same over a circuit.
@@ -56,11 +65,16 @@ pub record IsJudgedOverWith (named as_json : Bool) (word : Option (List ℕ)) (c
   pub subject : Appends told told' (where_named named (outcome_said (name_said answer.circuit) (bad_name_said answer.circuit) answer.firsts answer.outcome))
   pub so : IsSoOf a answer.outcome
 
--- without names, words and objects there is the line of the judgement alone
+-- without names, words and objects there is the line of the judgement alone, and else what is asked for
+abbrev pub AsTold : Bool → Bool → Option (List ℕ) → Type 0 → Type 0 → Type 0
+AsTold false false None Line Asked = Line
+AsTold named as_json word Line Asked = Asked
+
 abbrev pub ChecksModel : Bool → Bool → Option (List ℕ) → Option (List ℕ) → Option (List ℕ) → Option (List ℕ) → Option (List ℕ) → Option (List ℕ) → Option (List ℕ) → Answer → Type 0
-ChecksModel false false None model witness before now told told' a = WritesJudged model witness before now a
-ChecksModel named as_json word model witness before now told told' a = IsJudgedWith named as_json word model witness before now told told' a
+ChecksModel named as_json word model witness before now told told' a = AsTold named as_json word (WritesJudged model witness before now a) (IsJudgedWith named as_json word model witness before now told told' a)
+
+abbrev pub ChecksFitted : Bool → Bool → Option (List ℕ) → Option (List ℕ) → Option (List ℕ) → Option (List ℕ) → Option (List ℕ) → Option (List ℕ) → Option (List ℕ) → Answer → Type 0
+ChecksFitted named as_json word model witness before now told told' a = AsTold named as_json word (WritesJudgedFitted model witness before now a) (IsJudgedFittedWith named as_json word model witness before now told told' a)
 
 abbrev pub ChecksCircuit : Bool → Bool → Option (List ℕ) → Option (List ℕ) → Option (List ℕ) → Option (List ℕ) → Option (List ℕ) → Option (List ℕ) → Option (List ℕ) → Answer → Type 0
-ChecksCircuit false false None circuit witness before now told told' a = WritesJudgedOver circuit witness before now a
-ChecksCircuit named as_json word circuit witness before now told told' a = IsJudgedOverWith named as_json word circuit witness before now told told' a
+ChecksCircuit named as_json word circuit witness before now told told' a = AsTold named as_json word (WritesJudgedOver circuit witness before now a) (IsJudgedOverWith named as_json word circuit witness before now told told' a)

@@ -1,7 +1,6 @@
 -- What the commands on certificates have done.
 use Rattle.std.specs.Prelude.{ℕ, Bool, true, false, List, ◌++◌, Option, Some, None, codes, decimal}
 use Rattle.std.specs.Io.KnownBytes.{Appends}
-use Rattle.btor2.specs.declared.item.Item.{Item}
 use Rattle.aiger.specs.Circuit.{Circuit}
 use Rattle.drup.specs.declared.judgement.Judgement.{Judgement}
 use Rattle.drup.specs.declared.judgement.Judgement.TheVariants as verdict
@@ -12,11 +11,13 @@ use Rattle.certificates.specs.declared.proof_form.ProofForm.{ProofForm}
 use Rattle.invocation.specs.declared.tasks.Certified.{Certified}
 use Rattle.verbs.specs.declared.certifying.JudgedCertificate.{JudgedCertificate}
 use Rattle.verbs.specs.declared.given.GivenCircuit.{GivenCircuit}
+use Rattle.verbs.specs.declared.given.GivenModel.{GivenModel}
 use Rattle.verbs.specs.Certificates.{IsJudgedCertificate, IsOwedFormula}
+use Rattle.verbs.specs.Subjects.{given_told}
 use Rattle.subcommands.specs.declared.answers.Answer.{Answer}
 use Rattle.subcommands.specs.declared.answers.Answer.TheVariants as answer
-use Rattle.subcommands.specs.Objects.{certificate_object, circuit_names, model_names}
-use Rattle.subcommands.specs.Subjects.{bad_item_said, bad_name_said, holds_said}
+use Rattle.subcommands.specs.Objects.{certificate_object, circuit_names, line_names}
+use Rattle.subcommands.specs.Subjects.{bad_line_said, bad_name_said, holds_said}
 
 -- What was written is the text of the formula that a certificate owes for the bad property that is claimed of what the first text gives.
 pub record WritesOwed (of : Certified) (first second before now : Option (List ℕ)) : Type 0 where
@@ -44,16 +45,16 @@ verdict_written false named claim j = verdict_line claim j
 verdict_written true named claim j = certificate_object named claim j
 
 -- the line that says which bad property of what was read has a number: the line of the model, or else the name in the circuit
-abbrev pub said_of : Option (List Item) → Circuit → ℕ → List ℕ
-said_of (Some items) c k = bad_item_said items k
+abbrev pub said_of : Option GivenModel → Circuit → ℕ → List ℕ
+said_of (Some model) c k = bad_line_said (given_told model) k
 said_of None c k = bad_name_said c k
 
 abbrev pub read_said : GivenCircuit → ℕ → List ℕ
 read_said r k = said_of r.model r.circuit k
 
 -- the names of a bad property of what was read in an object
-abbrev pub names_of : Option (List Item) → Circuit → ℕ → List ℕ
-names_of (Some items) c k = (model_names items).bad k
+abbrev pub names_of : Option GivenModel → Circuit → ℕ → List ℕ
+names_of (Some model) c k = (line_names (given_told model)).bad k
 names_of None c k = (circuit_names c).bad k
 
 abbrev pub read_names : GivenCircuit → ℕ → List ℕ

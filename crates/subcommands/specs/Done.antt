@@ -3,10 +3,11 @@ use Rattle.std.specs.Prelude.{◌≢◌, ℕ, List, [], ◌∷◌, ◌++◌, len
 use Rattle.std.specs.List.{All}
 use Rattle.std.specs.Io.KnownBytes.{Appends}
 use Rattle.btor2.specs.declared.item.Item.{Item}
-use Rattle.btor2.specs.Items.{is_input, is_state, is_bad, is_constraint}
 use Rattle.btor2.specs.Check.{IsWellFormed}
-use Rattle.btor2.specs.Lists.{places}
 use Rattle.btor2text.specs.Writing.{written}
+use Rattle.full.specs.Lines.{FullLine}
+use Rattle.fulltext.specs.Spelling.{StandsForFull}
+use Rattle.fulltext.specs.Writing.{written_full}
 use Rattle.witness.specs.declared.judgement.Judgement.{Judgement}
 use Rattle.vcd.specs.declared.scope.Shown.{Shown}
 use Rattle.witness.specs.Printed.{judgement_text}
@@ -18,6 +19,8 @@ use Rattle.subcommands.specs.declared.answers.Answer.{Answer}
 use Rattle.subcommands.specs.declared.answers.Answer.TheVariants as answer
 use Rattle.verbs.specs.Circuits.{IsCost, IsCostFitted}
 use Rattle.verbs.specs.Judging.{IsAccepted, IsDumped, IsJudged, IsJudgedOver}
+use Rattle.verbs.specs.Subjects.{model_counts, whole_counts}
+use Rattle.verbs.specs.declared.subjects.Counts.{Counts}
 use Rattle.verbs.specs.declared.lowering.Cost.{Cost}
 use Rattle.verbs.specs.declared.refusals.Refusal.{Refusal}
 
@@ -47,13 +50,13 @@ pub record Judged (IsJudgedSo : Judgement → Type 0) (answer : Answer) : Type 0
   pub so : IsSo answer verdict
 
 -- the line that tells how many items, inputs, states, bad properties and constraints a model has
-abbrev pub counts_line : List Item → List ℕ
-counts_line items =
-    codes "; " ++ (decimal (length items)
-    ++ (codes " items, " ++ (decimal (length (places is_input 0 items))
-    ++ (codes " inputs, " ++ (decimal (length (places is_state 0 items))
-    ++ (codes " states, " ++ (decimal (length (places is_bad 0 items))
-    ++ (codes " bad, " ++ (decimal (length (places is_constraint 0 items))
+abbrev pub counts_line : Counts → List ℕ
+counts_line counts =
+    codes "; " ++ (decimal counts.lines
+    ++ (codes " items, " ++ (decimal counts.inputs
+    ++ (codes " inputs, " ++ (decimal counts.states
+    ++ (codes " states, " ++ (decimal counts.bads
+    ++ (codes " bad, " ++ (decimal counts.constraints
     ++ codes " constraints\n")))))))))
 
 -- all that was to come is a text of some model, and what was written is the writer's text of it and the line of its counts
@@ -61,7 +64,13 @@ pub record ShowsModel (known before now : Option (List ℕ)) : Type 0 where
   pub items : List Item
   pub text : IsModelOf known items
   pub well_formed : IsWellFormed items
-  pub appends : Appends before now (written items ++ counts_line items)
+  pub appends : Appends before now (written items ++ counts_line (model_counts items))
+
+-- the same of a model of the whole language
+pub record ShowsWhole (known before now : Option (List ℕ)) : Type 0 where
+  pub full : List FullLine
+  pub stands : IfSome known (λ text. StandsForFull text full)
+  pub appends : Appends before now (written_full full ++ counts_line (whole_counts full))
 
 -- the lines that tell how many gates and variables the lowering of a model has at most
 abbrev pub cost_lines : Cost → List ℕ

@@ -1,7 +1,5 @@
 -- The objects of JSON that tell judgements and refusals (RFC 8259; which members they have is this project's).
 use Rattle.std.specs.Prelude.{ℕ, suc, Bool, true, false, not, ◌&&◌, ◌||◌, ◌==◌, ◌+◌, ◌/◌, ◌%◌, nat_le, if◌then◌else◌, List, [], ◌∷◌, ◌++◌, Option, Some, None, codes, decimal}
-use Rattle.btor2.specs.declared.item.Item.{Item}
-use Rattle.btor2.specs.Items.{is_state, is_bad, is_constraint}
 use Rattle.btor2text.specs.Whys.{printed_number, line_why_name}
 use Rattle.aiger.specs.declared.circuit.Section.TheVariants as section
 use Rattle.aiger.specs.Circuit.{Circuit, name_of}
@@ -29,7 +27,7 @@ use Rattle.verbs.specs.declared.refusals.Fault.{Fault}
 use Rattle.verbs.specs.declared.refusals.Fault.TheVariants as fault
 use Rattle.verbs.specs.declared.subjects.Subject.{Subject}
 use Rattle.verbs.specs.declared.subjects.Subject.TheVariants as subject
-use Rattle.verbs.specs.Subjects.{numbered_item}
+use Rattle.verbs.specs.Subjects.{Name, Told, lines_told}
 
 -- ---- strings and members
 
@@ -74,9 +72,9 @@ symbol_member None = []
 symbol_member (Some symbol) = text_member (codes "symbol") symbol
 
 -- a line of a model: its id and its symbol
-abbrev pub item_members : Option Item → List ℕ
-item_members None = []
-item_members (Some x) = number_member (codes "id") x.id ++ symbol_member x.symbol
+abbrev pub line_members : Option Name → List ℕ
+line_members None = []
+line_members (Some x) = number_member (codes "id") x.id ++ symbol_member x.symbol
 
 -- what names a bad property, a constraint, and a state or a latch by a number
 pub record Names : Type 0 where
@@ -84,11 +82,11 @@ pub record Names : Type 0 where
   pub constraint : ℕ → List ℕ
   pub leaf : ℕ → List ℕ
 
-abbrev pub model_names : List Item → Names
-model_names items = record {
-  bad = λ k. item_members (numbered_item is_bad items k);
-  constraint = λ k. item_members (numbered_item is_constraint items k);
-  leaf = λ k. number_member (codes "state") k ++ item_members (numbered_item is_state items k);
+abbrev pub line_names : Told → Names
+line_names lines = record {
+  bad = λ k. line_members (lines.bad k);
+  constraint = λ k. line_members (lines.constraint k);
+  leaf = λ k. number_member (codes "state") k ++ line_members (lines.state k);
 }
 
 abbrev pub circuit_names : Circuit → Names
@@ -99,9 +97,9 @@ circuit_names c = record {
 }
 
 abbrev pub names : Subject → Names
-names (subject.Model m) = model_names m.now
+names (subject.Model lines) = line_names (lines_told lines)
 names (subject.Circuit c) = circuit_names c.now
-names (subject.Lowered m c) = record (model_names m.now) { leaf = (circuit_names c.now).leaf }
+names (subject.Lowered lines c) = record (line_names (lines_told lines)) { leaf = (circuit_names c.now).leaf }
 
 -- a bad property
 abbrev pub bad_members : Names → ℕ → List ℕ

@@ -11,11 +11,12 @@ use Rattle.verbs.specs.declared.lifting.FoundLifted.{FoundLifted}
 use Rattle.verbs.specs.declared.lifting.Lifted.{Lifted}
 use Rattle.verbs.specs.declared.restoring.FoundRestored.{FoundRestored}
 use Rattle.verbs.specs.declared.restoring.Restored.{Restored}
+use Rattle.verbs.specs.Subjects.{model_told}
 use Rattle.subcommands.specs.declared.answers.Answer.{Answer}
 use Rattle.subcommands.specs.declared.answers.Answer.TheVariants as answer
 use Rattle.subcommands.specs.Assumed.{assumed_said}
 use Rattle.subcommands.specs.Done.{IsSo, judgement_line}
-use Rattle.subcommands.specs.Subjects.{bad_item_said, lifted_said, said_by_name, where_named}
+use Rattle.subcommands.specs.Subjects.{bad_line_said, lifted_said, said_by_name, where_named}
 
 -- the line of the first faulty line of a counterexample
 abbrev pub malformed_line : RestoreFault → List ℕ
@@ -45,7 +46,7 @@ pub record RestoresForm (choice : Option ℕ) (circuit found before now told tol
 
 -- what is said by name of a judgement over the circuit of a model: what it is about, and of an acceptance in which frames the claims are reached first; and nothing where names are not asked for
 abbrev pub lifting_said : Bool → Lowered → List (Option ℕ) → Judgement → List ℕ
-lifting_said named lowered firsts j = where_named named (said_by_name (lifted_said lowered.model lowered.circuit) (bad_item_said lowered.model) firsts j)
+lifting_said named lowered firsts j = where_named named (said_by_name (lifted_said (model_told lowered.model) lowered.circuit) (bad_line_said (model_told lowered.model)) firsts j)
 
 -- what was told of a counterexample, and whether it is accepted: the line of its judgement, and what is said behind it; or the line of its first faulty line
 abbrev pub TellsLifted : (List (Option ℕ) → Judgement → List ℕ) → Result (Judgement × List (Option ℕ)) RestoreFault → Answer → Option (List ℕ) → Option (List ℕ) → Type 0

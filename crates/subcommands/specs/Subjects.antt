@@ -1,14 +1,12 @@
 -- What a judgement is about, by name: the line of the model, or the name in the circuit, of the bad property, the constraint, the state or the latch that it tells by a number (this project's).
 use Rattle.std.specs.Prelude.{ℕ, suc, Bool, true, false, List, [], ◌∷◌, ◌++◌, Option, Some, None, codes, decimal}
-use Rattle.btor2.specs.declared.item.Item.{Item}
-use Rattle.btor2.specs.Items.{is_state, is_bad, is_constraint}
 use Rattle.aiger.specs.declared.circuit.Section.TheVariants as section
 use Rattle.aiger.specs.Circuit.{Circuit, name_of}
 use Rattle.drup.specs.declared.judgement.Judgement.{Judgement as Verdict}
 use Rattle.drup.specs.declared.judgement.Judgement.TheVariants as verdict
 use Rattle.witness.specs.declared.judgement.Judgement.{Judgement}
 use Rattle.witness.specs.declared.judgement.Judgement.TheVariants as judgement
-use Rattle.verbs.specs.Subjects.{numbered_item}
+use Rattle.verbs.specs.Subjects.{Name, Told, lines_told}
 use Rattle.verbs.specs.declared.subjects.Subject.{Subject}
 use Rattle.verbs.specs.declared.subjects.Subject.TheVariants as subject
 
@@ -28,23 +26,23 @@ abbrev pub symbol_said : Option (List ℕ) → List ℕ
 symbol_said None = []
 symbol_said (Some symbol) = symbol ++ codes ", "
 
-abbrev pub line_said : Item → List ℕ
+abbrev pub line_said : Name → List ℕ
 line_said x = symbol_said x.symbol ++ (codes "line " ++ decimal x.id)
 
-abbrev pub says_item : List ℕ → ℕ → Option Item → List ℕ
-says_item kind number None = []
-says_item kind number (Some x) = says kind number (line_said x)
+abbrev pub says_line : List ℕ → ℕ → Option Name → List ℕ
+says_line kind number None = []
+says_line kind number (Some x) = says kind number (line_said x)
 
 -- the line that says which line of a model a bad property is
-abbrev pub bad_item_said : List Item → ℕ → List ℕ
-bad_item_said items k = says_item (codes "b") k (numbered_item is_bad items k)
+abbrev pub bad_line_said : Told → ℕ → List ℕ
+bad_line_said lines k = says_line (codes "b") k (lines.bad k)
 
 -- the line that says what a judgement over a model is about; none where it tells no number of a thing
-abbrev pub item_line : List Item → Judgement → List ℕ
-item_line items (judgement.NotReached claim) = bad_item_said items claim
-item_line items (judgement.Violated frame constraint) = says_item (codes "constraint ") constraint (numbered_item is_constraint items constraint)
-item_line items (judgement.InitDiffers index) = says_item (codes "state ") index (numbered_item is_state items index)
-item_line items _ = []
+abbrev pub line_judged : Told → Judgement → List ℕ
+line_judged lines (judgement.NotReached claim) = bad_line_said lines claim
+line_judged lines (judgement.Violated frame constraint) = says_line (codes "constraint ") constraint (lines.constraint constraint)
+line_judged lines (judgement.InitDiffers index) = says_line (codes "state ") index (lines.state index)
+line_judged lines _ = []
 
 -- ---- over a circuit
 
@@ -66,9 +64,9 @@ name_said c _ = []
 -- ---- over the circuit of a model
 
 -- the line that says what a judgement over the circuit of a model is about: the line of the model, and of a latch the name
-abbrev pub lifted_said : List Item → Circuit → Judgement → List ℕ
-lifted_said items c (judgement.InitDiffers index) = name_said c (judgement.InitDiffers index)
-lifted_said items c j = item_line items j
+abbrev pub lifted_said : Told → Circuit → Judgement → List ℕ
+lifted_said lines c (judgement.InitDiffers index) = name_said c (judgement.InitDiffers index)
+lifted_said lines c j = line_judged lines j
 
 -- ---- of a certificate
 
@@ -106,12 +104,12 @@ said_by_name said bad firsts j = said j ++ where_accepted j (firsts_said bad 0 f
 
 -- the line that says what a judgement is about
 abbrev pub subject_said : Subject → Judgement → List ℕ
-subject_said (subject.Model m) j = item_line m.now j
+subject_said (subject.Model lines) j = line_judged (lines_told lines) j
 subject_said (subject.Circuit c) j = name_said c.now j
-subject_said (subject.Lowered m c) j = lifted_said m.now c.now j
+subject_said (subject.Lowered lines c) j = lifted_said (lines_told lines) c.now j
 
 -- the line that says which bad property has a number
 abbrev pub bad_said : Subject → ℕ → List ℕ
-bad_said (subject.Model m) k = bad_item_said m.now k
+bad_said (subject.Model lines) k = bad_line_said (lines_told lines) k
 bad_said (subject.Circuit c) k = bad_name_said c.now k
-bad_said (subject.Lowered m c) k = bad_item_said m.now k
+bad_said (subject.Lowered lines c) k = bad_line_said (lines_told lines) k

@@ -30,7 +30,7 @@ fn subject_of(given: &GivenCircuit) -> Subject<'_>
     ensures names { (k : ℕ) → (names result).bad k ≡ read_names given.now k }
 {
     match &given.model {
-        Some(model) => Subject::Model(model),
+        Some(model) => Subject::Model(model.lines()),
         None => Subject::Circuit(&given.circuit),
     }
 }

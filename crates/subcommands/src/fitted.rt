@@ -1,16 +1,19 @@
 //! The commands on witnesses of fitted models.
 
-ghost use Rattle.std.specs.Prelude.{IfOk, IfErr};
+ghost use Rattle.std.specs.Prelude.{◌≡◌, false, IfOk, IfErr, option_map};
+ghost use Rattle.subcommands.specs.Asked.{IsJudgedFittedWith};
 ghost use Rattle.subcommands.specs.Fitted.{Spreads, Unfits, WritesJudgedFitted};
 ghost use Rattle.verbs.specs.Statuses.{Ends, IfInput};
 ghost use Rattle.verbs.specs.Statuses.Use.{Unused, Used};
+ghost use Rattle.verbs.specs.Asked.{IsNotFittedWith};
 ghost use Rattle.verbs.specs.Fitting.{IsNotFitted};
 
 use crate::answers::Answer;
-use crate::judgements::{tell_line, write_judgement};
+use crate::judgements::{answer_told, tell_line, write_judgement};
 use base::{Sink, Source};
+use invocation::Order;
 use std::alloc::Global;
-use verbs::{Refusal, judge_fitted, spread, unfit};
+use verbs::{Lines, Refusal, Subject, judge_fitted, judge_fitted_for, spread, unfit};
 
 /// Judges a witness over a model of the whole language, and writes the line of its judgement.
 pub fn check_fitted<A: Source, B: Source, O: Sink>(
@@ -27,6 +30,41 @@ pub fn check_fitted<A: Source, B: Source, O: Sink>(
 {
     let judgement = judge_fitted(alloc, first, second)?;
     write_judgement(alloc, &judgement, out)
+}
+
+/// Judges whether a witness over a model of the whole language is accepted and claims the bad property that a word asks for, where one
+/// does; tells it in a line or as an object; and with names says what the judgement is about.
+pub fn check_fitted_with<A: Source, B: Source, O: Sink, E: Sink>(
+    alloc: Global,
+    order: &Order<'_>,
+    first: &mut A,
+    second: &mut B,
+    out: &mut O,
+    err: &mut E,
+) -> Result<Answer, Refusal>
+    ensures done { IfOk result (IsJudgedFittedWith order.now.named order.now.as_json
+        (option_map (λ word. word.now) order.now.asked) (A.to_come first.old)
+        (B.to_come second.old) (O.written out.old) (O.written out.new) (E.written err.old)
+        (E.written err.new)) }
+    ensures refused { IfErr result
+        (IfInput (IsNotFittedWith (option_map (λ word. word.now) order.now.asked)
+        (A.to_come first.old))) }
+    ensures quiet { order.now.named ≡ false → err.new ≡ err.old }
+    ensures ends { Ends result (Used A.failures first.old first.new)
+        (Used B.failures second.old second.new) (Used O.failures out.old out.new)
+        (Used E.failures err.old err.new) }
+{
+    let judged = judge_fitted_for(alloc, order.asked, first, second)?;
+    let subject = Subject::Model(Lines::Whole(&judged.model));
+    answer_told(
+        alloc,
+        order,
+        subject,
+        &judged.outcome,
+        &judged.firsts,
+        out,
+        err,
+    )
 }
 
 /// Writes to standard output the witness of a model of the whole language, with names or without, that says what one of the fitted

@@ -1,13 +1,15 @@
 //! Strings and members of objects of JSON.
 
-ghost use Rattle.std.specs.Prelude.{◌≡◌, ◌<◌, OnOk, option_copied};
+ghost use Rattle.std.specs.Prelude.{◌≡◌, ◌<◌, OnOk, option_copied, option_map};
 ghost use Rattle.std.specs.Io.KnownBytes.{Appends};
 ghost use Rattle.base.specs.Device.{CountsFaults};
-ghost use Rattle.subcommands.specs.Objects.{faulty_members, hex_digit, is_plain, item_members, number_member, numbered_members, object_begin, object_end, place_members, string_byte, string_bytes_of, symbol_member, text_member};
+ghost use Rattle.verbs.specs.Subjects.{name_of};
+ghost use Rattle.subcommands.specs.Objects.{faulty_members, hex_digit, is_plain, line_members, number_member, numbered_members, object_begin, object_end, place_members, string_byte, string_bytes_of, symbol_member, text_member};
 
 use base::{DeviceFault, Sink, write_all};
-use btor2::{Item, Symbol};
+use btor2::Symbol;
 use itoa::Buffer;
+use verbs::Named;
 
 /// A digit of base 16.
 fn hex_digit(digit: u8) -> u8
@@ -104,15 +106,15 @@ fn write_symbol_of<O: Sink>(symbol: &Option<Symbol>, out: &mut O) -> Result<(), 
 }
 
 /// Writes the id and the symbol of a line of a model, where it is there.
-pub(crate) fn write_item<O: Sink>(item: Option<&Item>, out: &mut O) -> Result<(), DeviceFault>
+pub(crate) fn write_line<O: Sink>(line: Option<Named<'_>>, out: &mut O) -> Result<(), DeviceFault>
     ensures written { OnOk result (Appends (O.written out.old) (O.written out.new)
-        (item_members (option_copied item.entry))) }
+        (line_members (option_map name_of line.entry))) }
     ensures counted { CountsFaults result (O.failures out.old) (O.failures out.new) }
 {
-    match item {
-        Some(item) => {
-            write_number(b"id", item.id, out)?;
-            write_symbol_of(&item.symbol, out)
+    match line {
+        Some(line) => {
+            write_number(b"id", line.id, out)?;
+            write_symbol_of(line.symbol, out)
         }
         None => Ok(()),
     }

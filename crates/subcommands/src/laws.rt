@@ -5,7 +5,8 @@ ghost use Rattle.base.specs.Decimals.{number_of};
 ghost use Rattle.witness.specs.declared.judgement.Judgement.TheVariants as judgement;
 ghost use Rattle.subcommands.specs.Asked.{outcome_line};
 ghost use Rattle.verbs.specs.Asked.{AreCalledAlike, IsAskedBy, IsUnknown, is_name, outcome};
-ghost use Rattle.subcommands.specs.Objects.{model_names, outcome_object, text_member};
+ghost use Rattle.subcommands.specs.Objects.{line_names, outcome_object, text_member};
+ghost use Rattle.verbs.specs.Subjects.{model_told};
 ghost use Rattle.subcommands.specs.Assumed.{assumed_said};
 
 /// Worked rows: of two bad properties of which the second is called by a word, the word asks for that, and `1`, too; neither
@@ -29,10 +30,10 @@ pub fn worked_outcomes()
         ≡ codes "not claimed: b1\n" }
     ensures unreached { outcome_line (outcome (Some 1) false (judgement.NotReached 0))
         ≡ codes "not reached: b0\n" }
-    ensures claims { outcome_object (model_names []) (Some 1 ∷ None ∷ Some 0 ∷ [])
+    ensures claims { outcome_object (line_names (model_told [])) (Some 1 ∷ None ∷ Some 0 ∷ [])
         (outcome None true (judgement.Accepted 2)) ≡ codes
         "{\"verdict\": \"accepted\", \"frames\": 2, \"claims\": [{\"bad\": 0, \"frame\": 1}, {\"bad\": 2, \"frame\": 0}]}\n" }
-    ensures none { outcome_object (model_names []) [] (outcome (Some 1) false (judgement.Accepted 2))
+    ensures none { outcome_object (line_names (model_told [])) [] (outcome (Some 1) false (judgement.Accepted 2))
         ≡ codes "{\"verdict\": \"not claimed\", \"bad\": 1}\n" }
     ensures escaped { text_member (codes "symbol") (34 ∷ 10 ∷ 195 ∷ 97 ∷ [])
         ≡ codes ", \"symbol\": \"\\u0022\\u000a\\u00c3a\"" }

@@ -17,7 +17,7 @@ use blast::Watch;
 use restore::RestoreFault;
 use rises::FirstRises;
 use std::alloc::Global;
-use verbs::{FoundLifted, Lowered, Refusal, Subject, lift, lift_found, lift_from_form};
+use verbs::{FoundLifted, Lines, Lowered, Refusal, Subject, lift, lift_found, lift_from_form};
 use witness::Judgement;
 
 /// Lifts a witness of the circuit of a model to standard output, with names or without, and tells its judgement on standard
@@ -39,7 +39,10 @@ pub fn lift_witness<A: Source, B: Source, O: Sink, E: Sink, W: Watch>(
         (Used E.failures err.old err.new) }
 {
     let lifted = lift(alloc, named, first, second, out, watch)?;
-    let subject = Subject::Lowered(&lifted.lowered.model, &lifted.lowered.circuit);
+    let subject = Subject::Lowered(
+        Lines::Profile(&lifted.lowered.model),
+        &lifted.lowered.circuit,
+    );
     tell_judgement(
         alloc,
         named,
@@ -64,7 +67,7 @@ fn tell_lifted<E: Sink>(
         (E.written err.old) (E.written err.new)) }
     ensures ends { EndsUnrefused result Unused Unused Unused (Used E.failures err.old err.new) }
 {
-    let subject = Subject::Lowered(&lowered.model, &lowered.circuit);
+    let subject = Subject::Lowered(Lines::Profile(&lowered.model), &lowered.circuit);
     match told {
         Ok((judgement, firsts)) => tell_judgement(alloc, named, subject, judgement, firsts, err),
         Err(fault) => tell_malformed(alloc, fault, err),
@@ -120,7 +123,10 @@ pub fn lift_form_witness<A: Source, B: Source, O: Sink, E: Sink, W: Watch>(
 {
     let lifted = lift_from_form(alloc, named, choice, first, second, out, watch)?;
     let count = lifted.lowered.circuit.bads().len();
-    let subject = Subject::Lowered(&lifted.lowered.model, &lifted.lowered.circuit);
+    let subject = Subject::Lowered(
+        Lines::Profile(&lifted.lowered.model),
+        &lifted.lowered.circuit,
+    );
     tell_form_judgement(
         alloc,
         named,

@@ -1,16 +1,18 @@
 //! The commands on models, but for those that lift and dump.
 
-ghost use Rattle.std.specs.Prelude.{◌≡◌, ℕ, false, List, Option, IfOk, IfErr, OnOk, option_map};
+ghost use Rattle.std.specs.Prelude.{◌≡◌, ◌++◌, ℕ, false, List, Option, IfOk, IfErr, OnOk, option_map};
 ghost use Rattle.std.specs.Io.KnownBytes.{Appends};
 ghost use Rattle.std.specs.String.{string_bytes};
 ghost use Rattle.btor2text.specs.Spelling.{IsModelOf};
 ghost use Rattle.verbs.specs.Asked.{IsNotJudgedWith};
-ghost use Rattle.verbs.specs.Fitting.{IsNotFitted};
+ghost use Rattle.fulltext.specs.Writing.{written_full};
+ghost use Rattle.verbs.specs.Fitting.{IsNotFitted, IsNoWholeModel};
+ghost use Rattle.verbs.specs.Subjects.{whole_counts};
 ghost use Rattle.verbs.specs.Refusals.{IsNoModel, IsNotJudged};
 ghost use Rattle.verbs.specs.Statuses.{Ends, EndsUnrefused, IfInput};
 ghost use Rattle.verbs.specs.Statuses.Use.{Unused, Used};
 ghost use Rattle.subcommands.specs.Asked.{IsJudgedWith};
-ghost use Rattle.subcommands.specs.Done.{ShowsModel, TellsCost, TellsCostFitted, WritesJudged, cost_lines, counts_line};
+ghost use Rattle.subcommands.specs.Done.{ShowsModel, ShowsWhole, TellsCost, TellsCostFitted, WritesJudged, cost_lines, counts_line};
 
 use crate::answers::Answer;
 use crate::judgements::{answer_told, write_judgement};
@@ -21,8 +23,8 @@ use btor2text::write;
 use invocation::Order;
 use std::alloc::{AllocError, Global};
 use verbs::{
-    Cost, Device, Refusal, Subject, cost_of, cost_of_fitted, judge_for_model, judge_over_model,
-    read_model,
+    Cost, Counts, Device, Lines, Refusal, Subject, WholeModel, cost_of, cost_of_fitted,
+    judge_for_model, judge_over_model, read_model, read_whole_model,
 };
 
 /// Judges a witness over a model, and writes the line of its judgement.
@@ -65,7 +67,7 @@ pub fn check_model_with<A: Source, B: Source, O: Sink, E: Sink>(
         (Used E.failures err.old err.new) }
 {
     let judged = judge_for_model(alloc, order.asked, first, second)?;
-    let subject = Subject::Model(&judged.model);
+    let subject = Subject::Model(Lines::Profile(&judged.model));
     answer_told(
         alloc,
         order,
@@ -86,7 +88,7 @@ fn write_shown<O: Sink>(alloc: Global, model: &Model, out: &mut O) -> Result<Ans
 {
     // a model's items are well-formed
     let _ = model.items();
-    let line = counts_line(alloc, model)?;
+    let line = counts_line(alloc, Lines::Profile(model).counts())?;
     match write(model, out) {
         Ok(()) => {}
         Err(_) => return Err(Refusal::Failed(Device::Output)),
@@ -112,17 +114,52 @@ pub fn show<A: Source, O: Sink>(
     write_shown(alloc, &model, out)
 }
 
-/// The line that tells how many items, inputs, states, bad properties and constraints a model has.
-fn counts_line(alloc: Global, model: &Model) -> Result<String, AllocError>
-    ensures { IfOk result (λ line. string_bytes line ≡ counts_line model.now) }
+/// Writes a model of the whole language that was read in the writer's form, and the line of its counts.
+fn write_whole<O: Sink>(alloc: Global, model: &WholeModel, out: &mut O) -> Result<Answer, Refusal>
+    ensures written { OnOk result (Appends (O.written out.old) (O.written out.new)
+        (written_full model.now ++ counts_line (whole_counts model.now))) }
+    ensures answer { IfOk result (λ answer. answer ≡ Answer.Done) }
+    ensures ends { EndsUnrefused result Unused Unused (Used O.failures out.old out.new) Unused }
 {
-    let items = model.items().len();
-    let inputs = model.inputs().len();
-    let states = model.states().len();
-    let bads = model.bads().len();
-    let constraints = model.constraints().len();
+    let line = counts_line(alloc, Lines::Whole(model).counts())?;
+    match fulltext::write(model.model(), out) {
+        Ok(()) => {}
+        Err(_) => return Err(Refusal::Failed(Device::Output)),
+    }
+    write_result(out, line.as_bytes())?;
+    Ok(Answer::Done)
+}
+
+/// Writes the model of the whole language of a text in the writer's form, and the line of its counts.
+pub fn show_whole<A: Source, O: Sink>(
+    alloc: Global,
+    first: &mut A,
+    out: &mut O,
+) -> Result<Answer, Refusal>
+    ensures done { OnOk result (ShowsWhole (A.to_come first.old) (O.written out.old)
+        (O.written out.new)) }
+    ensures answer { IfOk result (λ answer. answer ≡ Answer.Done) }
+    ensures refused { IfErr result (IfInput (IsNoWholeModel (A.to_come first.old))) }
+    ensures ends { Ends result (Used A.failures first.old first.new) Unused
+        (Used O.failures out.old out.new) Unused }
+{
+    let model = read_whole_model(alloc, first)?;
+    write_whole(alloc, &model, out)
+}
+
+/// The line that tells how many items, inputs, states, bad properties and constraints a model has.
+fn counts_line(alloc: Global, counts: Counts) -> Result<String, AllocError>
+    ensures { IfOk result (λ line. string_bytes line ≡ counts_line counts) }
+{
+    let Counts {
+        lines,
+        inputs,
+        states,
+        bads,
+        constraints,
+    } = counts;
     format!(in alloc;
-        "; {items} items, {inputs} inputs, {states} states, {bads} bad, {constraints} constraints\n"
+        "; {lines} items, {inputs} inputs, {states} states, {bads} bad, {constraints} constraints\n"
     )
 }
 

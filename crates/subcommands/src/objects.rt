@@ -6,7 +6,7 @@ ghost use Rattle.base.specs.Device.{CountsFaults};
 ghost use Rattle.subcommands.specs.Objects.{bad_members, certificate_object, claim_begin, claim_end, claim_object, claim_objects, claims_begin, claims_end, fault_members, fault_object, is_there, item_place, judgement_members, names, object, outcome_object, place_at, proof_members, proof_verdict, refusal_verdict, separator, verdict_name, why_member};
 
 use crate::json::{
-    begin_object, end_object, write_faulty, write_item, write_number, write_numbered, write_place,
+    begin_object, end_object, write_faulty, write_line, write_number, write_numbered, write_place,
     write_symbol, write_text,
 };
 use aiger::Section;
@@ -15,7 +15,7 @@ use blast::LowerFault;
 use drup::Judgement as Verdict;
 use itoa::Buffer;
 use rises::FirstRises;
-use verbs::{Fault, Outcome, Subject, item_of};
+use verbs::{Fault, Outcome, Subject};
 use witness::{JudgeFault, Judgement};
 
 /// Writes what names a bad property.
@@ -25,9 +25,7 @@ fn write_bad<O: Sink>(subject: Subject<'_>, number: u64, out: &mut O) -> Result<
     ensures counted { CountsFaults result (O.failures out.old) (O.failures out.new) }
 {
     match subject {
-        Subject::Model(model) | Subject::Lowered(model, _) => {
-            write_item(item_of(model, model.bads(), number), out)
-        }
+        Subject::Model(lines) | Subject::Lowered(lines, _) => write_line(lines.bad(number), out),
         Subject::Circuit(circuit) => {
             write_symbol(circuit.name(Section::Bad, number as usize), out)
         }
@@ -45,8 +43,8 @@ fn write_constraint<O: Sink>(
     ensures counted { CountsFaults result (O.failures out.old) (O.failures out.new) }
 {
     match subject {
-        Subject::Model(model) | Subject::Lowered(model, _) => {
-            write_item(item_of(model, model.constraints(), number), out)
+        Subject::Model(lines) | Subject::Lowered(lines, _) => {
+            write_line(lines.constraint(number), out)
         }
         Subject::Circuit(circuit) => {
             write_symbol(circuit.name(Section::Constraint, number as usize), out)
@@ -61,9 +59,9 @@ fn write_leaf<O: Sink>(subject: Subject<'_>, number: u64, out: &mut O) -> Result
     ensures counted { CountsFaults result (O.failures out.old) (O.failures out.new) }
 {
     match subject {
-        Subject::Model(model) => {
+        Subject::Model(lines) => {
             write_number(b"state", number, out)?;
-            write_item(item_of(model, model.states(), number), out)
+            write_line(lines.state(number), out)
         }
         Subject::Circuit(circuit) | Subject::Lowered(_, circuit) => {
             write_number(b"latch", number, out)?;

@@ -1,20 +1,18 @@
 //! What judgements are about, by name.
 
-ghost use Rattle.std.specs.Prelude.{◌≡◌, ◌++◌, ℕ, Bool, false, OnOk, codes, decimal, option_copied, slice_get};
+ghost use Rattle.std.specs.Prelude.{◌≡◌, ◌++◌, false, OnOk, codes, decimal, option_copied, option_map};
 ghost use Rattle.std.specs.Io.KnownBytes.{Appends};
 ghost use Rattle.base.specs.Device.{CountsFaults};
-ghost use Rattle.btor2.specs.declared.item.Body.{Body};
-ghost use Rattle.btor2.specs.Lists.{places};
 ghost use Rattle.subcommands.specs.Asked.{outcome_said};
-ghost use Rattle.subcommands.specs.Subjects.{bad_item_said, bad_name_said, bad_said, first_said, firsts_said, frame_said, item_line, lifted_said, line_said, name_said, said_by_name, says, says_item, says_name, subject_said, symbol_said, where_named};
-ghost use Rattle.verbs.specs.Subjects.{numbered_item};
+ghost use Rattle.subcommands.specs.Subjects.{bad_line_said, bad_name_said, bad_said, first_said, firsts_said, frame_said, lifted_said, line_judged, line_said, name_said, said_by_name, says, says_line, says_name, subject_said, symbol_said, where_named};
+ghost use Rattle.verbs.specs.Subjects.{lines_told, name_of};
 
 use aiger::{Circuit, Section};
 use base::{DeviceFault, Sink, write_all};
-use btor2::{Item, Model, Symbol};
+use btor2::Symbol;
 use itoa::Buffer;
 use rises::FirstRises;
-use verbs::{Outcome, Subject, item_of};
+use verbs::{Lines, Named, Outcome, Subject};
 use witness::Judgement;
 
 /// Writes the number of a thing of a kind.
@@ -45,44 +43,34 @@ fn tell_symbol<E: Sink>(symbol: &Option<Symbol>, err: &mut E) -> Result<(), Devi
 }
 
 /// Writes what names a line of a model.
-fn tell_line<E: Sink>(item: &Item, err: &mut E) -> Result<(), DeviceFault>
+fn tell_line<E: Sink>(line: Named<'_>, err: &mut E) -> Result<(), DeviceFault>
     ensures written { OnOk result (Appends (E.written err.old) (E.written err.new)
-        (line_said item.now ++ codes "\n")) }
+        (line_said (name_of line.entry) ++ codes "\n")) }
     ensures counted { CountsFaults result (E.failures err.old) (E.failures err.new) }
 {
     let mut buffer = Buffer::new();
-    tell_symbol(&item.symbol, err)?;
+    tell_symbol(line.symbol, err)?;
     write_all(err, b"line ")?;
-    write_all(err, buffer.format(item.id).as_bytes())?;
+    write_all(err, buffer.format(line.id).as_bytes())?;
     write_all(err, b"\n")
 }
 
-/// Says which line of a model the thing of a kind with a number is.
-fn tell_item<E: Sink>(kind: &[u8], number: u64, item: &Item, err: &mut E) -> Result<(), DeviceFault>
-    ensures written { OnOk result (Appends (E.written err.old) (E.written err.new)
-        (says kind.now number (line_said item.now))) }
-    ensures counted { CountsFaults result (E.failures err.old) (E.failures err.new) }
-{
-    tell_number(kind, number, err)?;
-    tell_line(item, err)
-}
-
-/// Says which line of a model the thing with a number among some is, which stand at these places; nothing where there are not
-/// so many.
-fn tell_item_of<E: Sink>(
+/// Says which line of a model the thing of a kind with a number is; nothing where there are not so many.
+fn tell_numbered<E: Sink>(
     kind: &[u8],
     number: u64,
-    model: &Model,
-    list: &[usize],
+    line: Option<Named<'_>>,
     err: &mut E,
 ) -> Result<(), DeviceFault>
-    ensures written { OnOk result ((test : Body → Bool) → list.now ≡ places test 0 model.now
-        → Appends (E.written err.old) (E.written err.new)
-        (says_item kind.now number (numbered_item test model.now number))) }
+    ensures written { OnOk result (Appends (E.written err.old) (E.written err.new)
+        (says_line kind.now number (option_map name_of line.entry))) }
     ensures counted { CountsFaults result (E.failures err.old) (E.failures err.new) }
 {
-    match item_of(model, list, number) {
-        Some(item) => tell_item(kind, number, item, err),
+    match line {
+        Some(line) => {
+            tell_number(kind, number, err)?;
+            tell_line(line, err)
+        }
         None => Ok(()),
     }
 }
@@ -109,12 +97,12 @@ fn tell_name<E: Sink>(
 }
 
 /// Says which line of a model a bad property is.
-fn tell_bad_item<E: Sink>(model: &Model, number: u64, err: &mut E) -> Result<(), DeviceFault>
+fn tell_bad_line<E: Sink>(lines: Lines<'_>, number: u64, err: &mut E) -> Result<(), DeviceFault>
     ensures written { OnOk result (Appends (E.written err.old) (E.written err.new)
-        (bad_item_said model.now number)) }
+        (bad_line_said (lines_told lines.entry) number)) }
     ensures counted { CountsFaults result (E.failures err.old) (E.failures err.new) }
 {
-    tell_item_of(b"b", number, model, model.bads(), err)
+    tell_numbered(b"b", number, lines.bad(number), err)
 }
 
 /// Says which name a bad property of a circuit has.
@@ -128,22 +116,27 @@ fn tell_bad_name<E: Sink>(circuit: &Circuit, number: u64, err: &mut E) -> Result
 }
 
 /// Says which line of a model a judgement is about.
-fn tell_item_said<E: Sink>(
-    model: &Model,
+fn tell_line_judged<E: Sink>(
+    lines: Lines<'_>,
     judgement: &Judgement,
     err: &mut E,
 ) -> Result<(), DeviceFault>
     ensures written { OnOk result (Appends (E.written err.old) (E.written err.new)
-        (item_line model.now judgement.now)) }
+        (line_judged (lines_told lines.entry) judgement.now)) }
     ensures counted { CountsFaults result (E.failures err.old) (E.failures err.new) }
 {
     match judgement {
-        Judgement::NotReached { claim } => tell_bad_item(model, *claim, err),
+        Judgement::NotReached { claim } => tell_bad_line(lines, *claim, err),
         Judgement::Violated { constraint, .. } => {
-            tell_item_of(b"constraint ", *constraint, model, model.constraints(), err)
+            tell_numbered(
+                b"constraint ",
+                *constraint,
+                lines.constraint(*constraint),
+                err,
+            )
         }
         Judgement::InitDiffers { index } => {
-            tell_item_of(b"state ", *index, model, model.states(), err)
+            tell_numbered(b"state ", *index, lines.state(*index), err)
         }
         _ => Ok(()),
     }
@@ -181,18 +174,18 @@ fn tell_name_said<E: Sink>(
 
 /// Says what a judgement over the circuit of a model is about.
 fn tell_lifted_said<E: Sink>(
-    model: &Model,
+    lines: Lines<'_>,
     circuit: &Circuit,
     judgement: &Judgement,
     err: &mut E,
 ) -> Result<(), DeviceFault>
     ensures written { OnOk result (Appends (E.written err.old) (E.written err.new)
-        (lifted_said model.now circuit.now judgement.now)) }
+        (lifted_said (lines_told lines.entry) circuit.now judgement.now)) }
     ensures counted { CountsFaults result (E.failures err.old) (E.failures err.new) }
 {
     match judgement {
         Judgement::InitDiffers { .. } => tell_name_said(circuit, judgement, err),
-        _ => tell_item_said(model, judgement, err),
+        _ => tell_line_judged(lines, judgement, err),
     }
 }
 
@@ -207,9 +200,9 @@ fn tell_said<E: Sink>(
     ensures counted { CountsFaults result (E.failures err.old) (E.failures err.new) }
 {
     match subject {
-        Subject::Model(model) => tell_item_said(model, judgement, err),
+        Subject::Model(lines) => tell_line_judged(lines, judgement, err),
         Subject::Circuit(circuit) => tell_name_said(circuit, judgement, err),
-        Subject::Lowered(model, circuit) => tell_lifted_said(model, circuit, judgement, err),
+        Subject::Lowered(lines, circuit) => tell_lifted_said(lines, circuit, judgement, err),
     }
 }
 
@@ -220,7 +213,7 @@ fn tell_bad_said<E: Sink>(subject: Subject<'_>, number: u64, err: &mut E) -> Res
     ensures counted { CountsFaults result (E.failures err.old) (E.failures err.new) }
 {
     match subject {
-        Subject::Model(model) | Subject::Lowered(model, _) => tell_bad_item(model, number, err),
+        Subject::Model(lines) | Subject::Lowered(lines, _) => tell_bad_line(lines, number, err),
         Subject::Circuit(circuit) => tell_bad_name(circuit, number, err),
     }
 }

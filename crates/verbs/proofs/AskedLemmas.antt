@@ -8,6 +8,9 @@ use Rattle.btor2.specs.Lists.{places}
 use Rattle.btor2.specs.Reachability.{nodes_of}
 use Rattle.btor2.specs.Trace.{Frame}
 use Rattle.btor2text.specs.Spelling.{IsModelOf}
+use Rattle.full.specs.Lines.{FullLine, lines_of}
+use Rattle.fulljudge.specs.Rises.{JudgesFullWithRises, full_claimed}
+use Rattle.spread.specs.Spread.{IsShort}
 use Rattle.aiger.specs.Circuit.{Circuit, IsCircuit}
 use Rattle.base.specs.Literal.{Valuation}
 use Rattle.witness.specs.declared.judgement.Judgement.{Judgement}
@@ -22,6 +25,7 @@ use Rattle.verbs.specs.declared.refusals.Fault.{Fault}
 use Rattle.verbs.specs.declared.refusals.Fault.TheVariants as fault
 use Rattle.verbs.specs.Asked.{AsksFor, AsksForNone, IsAskedBy, IsNotJudgedWith, is_claim_noted, is_claimed, is_name_of, is_noted, is_symbol_of}
 use Rattle.verbs.specs.Judging.{IsAccepted}
+use Rattle.verbs.specs.Subjects.{model_told, whole_told}
 
 -- the entry of a list of first rises
 abbrev entry : List (Option ℕ) → ℕ → Option ℕ
@@ -73,7 +77,7 @@ claim_there (Some word) count called k is =
     subst (λ (n : ℕ). n < count) (sym same) (asked_there (number_of word) count (called word) is.0 is.1.1)
 
 -- what is noted of an accepted text is what it claims of what is asked for
-pub claimed_words : (claim : Option ℕ) (word witness : Option (List ℕ)) (items : List Item) (verdict : Judgement) (firsts : List (Option ℕ)) → IsWellFormed items → AsksFor word (length (places is_bad 0 items)) (is_symbol_of items) claim
+pub claimed_words : (claim : Option ℕ) (word witness : Option (List ℕ)) (items : List Item) (verdict : Judgement) (firsts : List (Option ℕ)) → IsWellFormed items → AsksFor word (length (places is_bad 0 items)) (is_symbol_of (model_told items)) claim
     → IfSome witness (λ text. Judges items text verdict) → IfSome witness (λ text. (fs : List Frame) → IsClosedTrace items text fs → firsts ≡ word_first_rises items text fs)
     → ((items : List Item) (text : List ℕ) → IsWellFormed items → (fs : List Frame) × IsClosedTrace items text fs)
     → ((items : List Item) (text : List ℕ) (fs : List Frame) (frames k : ℕ) → IsWellFormed items → Judges items text (judgement.Accepted frames) → IsClosedTrace items text fs → word_claimed items text k ≡ true
@@ -83,7 +87,7 @@ pub claimed_words : (claim : Option ℕ) (word witness : Option (List ℕ)) (ite
 claimed_words None word None items verdict firsts valid asked is rises exists some none = tt
 claimed_words None word (Some text) items verdict firsts valid asked is rises exists some none = λ yes. refl
 claimed_words (Some k) word witness items verdict firsts valid asked is rises exists some none =
-    noted_words witness items verdict firsts k valid (claim_there word (length (places is_bad 0 items)) (is_symbol_of items) k asked) is rises exists some none
+    noted_words witness items verdict firsts k valid (claim_there word (length (places is_bad 0 items)) (is_symbol_of (model_told items)) k asked) is rises exists some none
 
 pub claimed_bits : (claim : Option ℕ) (word witness : Option (List ℕ)) (c : Circuit) (verdict : Judgement) (firsts : List (Option ℕ)) → IsCircuit c → AsksFor word (length c.bads) (is_name_of c) claim
     → IfSome witness (λ text. BitJudges c text verdict) → IfSome witness (λ text. AreBitFirstRises c text firsts)
@@ -97,13 +101,28 @@ claimed_bits None word (Some text) c verdict firsts valid asked is rises exists 
 claimed_bits (Some k) word witness c verdict firsts valid asked is rises exists some none =
     noted_bits witness c verdict firsts k valid (claim_there word (length c.bads) (is_name_of c) k asked) is rises exists some none
 
+-- the same over a model of the whole language
+pub claimed_whole : (claim : Option ℕ) (word witness : Option (List ℕ)) (full : List FullLine) (verdict : Judgement) (firsts : List (Option ℕ)) → AsksFor word (length (lines_of is_bad full)) (is_symbol_of (whole_told full)) claim
+    → IfSome witness (λ text. IsShort text → JudgesFullWithRises full text verdict firsts)
+    → ((full : List FullLine) (text : List ℕ) (frames k : ℕ) (firsts : List (Option ℕ)) → JudgesFullWithRises full text (judgement.Accepted frames) firsts → k < length (lines_of is_bad full) → full_claimed full text k ≡ true
+    → (first : ℕ) × ((slice_get firsts k ≡ Some (Some first)) × (first < frames)))
+    → ((full : List FullLine) (text : List ℕ) (frames k : ℕ) (firsts : List (Option ℕ)) → JudgesFullWithRises full text (judgement.Accepted frames) firsts → k < length (lines_of is_bad full) → full_claimed full text k ≡ false
+    → slice_get firsts k ≡ Some None)
+    → IfSome witness (λ text. IsShort text → IsAccepted verdict → is_claim_noted claim firsts ≡ is_claimed claim (full_claimed full text))
+claimed_whole claim word None full verdict firsts asked is some none = tt
+claimed_whole None word (Some text) full verdict firsts asked is some none = λ short yes. refl
+claimed_whole (Some k) word (Some text) full (judgement.Accepted frames) firsts asked is some none = λ short yes.
+    let there = claim_there word (length (lines_of is_bad full)) (is_symbol_of (whole_told full)) k asked in
+    noted_so (full_claimed full text k) firsts k (λ so. let h = some full text frames k firsts (is short) there so in (h.0, h.1.0)) (λ so. none full text frames k firsts (is short) there so)
+claimed_whole (Some k) word (Some text) full _ firsts asked is some none = λ short no. absurd no
+
 -- what is so of each text that is known
 pub each_reached : {P Q : List ℕ → Type 0} (witness : Option (List ℕ)) → IfSome witness P → ((text : List ℕ) → P text → Q text) → IfSome witness Q
 each_reached None h reaches = tt
 each_reached (Some text) h reaches = reaches text h
 
 -- what a word asks for in vain is what a text is refused for
-pub unasked_words : (word known : Option (List ℕ)) (items : List Item) (f : Fault) → IsModelOf known items → AsksForNone word (length (places is_bad 0 items)) (is_symbol_of items) f → IsNotJudgedWith word known f
+pub unasked_words : (word known : Option (List ℕ)) (items : List Item) (f : Fault) → IsModelOf known items → AsksForNone word (length (places is_bad 0 items)) (is_symbol_of (model_told items)) f → IsNotJudgedWith word known f
 unasked_words None known items f text none = absurd none
 unasked_words (Some word) known items (fault.Engine e) text none = record { items = items; text = text; unasked = none }
 unasked_words (Some word) known items (fault.SameName j k) text none = record { items = items; text = text; unasked = none }

@@ -17,7 +17,7 @@ use Rattle.verbs.specs.declared.refusals.Fault.TheVariants as fault
 use Rattle.verbs.specs.declared.refusals.Refusal.{Refusal}
 use Rattle.verbs.specs.declared.refusals.Refusal.TheVariants as refusal
 use Rattle.verbs.specs.Conversions.{of_fitting, of_fitting_written}
-use Rattle.verbs.specs.Fitting.{FitsFirst, IsFitText, IsKept, IsNotFit, IsNotFitted, IsOfWords, IsProfileOf, IsUnwrittenOrLong, IsWritingFault}
+use Rattle.verbs.specs.Fitting.{FitsFirst, FitsWhole, IsFitText, IsKept, IsNotFit, IsNotFitted, IsOfWords, IsProfileOf, IsUnwrittenOrLong, IsWritingFault}
 use Rattle.verbs.specs.Statuses.{IfInput}
 
 -- it is kept by whatever is made of it
@@ -81,6 +81,17 @@ fits_first (Ok narrow) known text same fit = record {
   rise_alike = fit.rise_alike;
 }
 fits_first (Err x) known text same fit = tt
+
+-- the model that the text stands for is that which is fitted
+pub fits_whole : (known : Option (List ℕ)) (text : List ℕ) (narrow : List Item) (full : List FullLine) → IfSome known (λ all. text ≡ all) → IsFitText text narrow → StandsForFull text full
+    → ((t : List ℕ) (one other : List FullLine) → StandsForFull t one → StandsForFull t other → one ≡ other) → FitsWhole known narrow full
+unfolding fits_first
+fits_whole known text narrow full same fit stands one = record { fits = fits_first (Ok narrow) known text same fit; lines = one text fit.lines full fit.stands stands }
+
+pub fits_both : (r : Result (List Item × List FullLine) Refusal) (known : Option (List ℕ)) (text : List ℕ) → IfSome known (λ all. text ≡ all) → IfOk r (λ both. IsFitText text both.0 × StandsForFull text both.1)
+    → ((t : List ℕ) (one other : List FullLine) → StandsForFull t one → StandsForFull t other → one ≡ other) → IfOk r (λ both. FitsWhole known both.0 both.1)
+fits_both (Ok both) known text same h one = fits_whole known text both.0 both.1 same h.0 h.1 one
+fits_both (Err x) known text same h one = tt
 
 -- what keeps the text from being fitted keeps all that was to come from it
 pub not_fitted : (known : Option (List ℕ)) (text : List ℕ) (x : Refusal) → IfSome known (λ all. text ≡ all) → IfInput (IsNotFit text) x → IfInput (IsNotFitted known) x

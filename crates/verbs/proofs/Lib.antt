@@ -4,6 +4,7 @@ pub mod CountLemmas
 pub mod EngineLemmas
 pub mod FittedLemmas
 pub mod GivenLemmas
+pub mod PlaceLemmas
 pub mod RestoringLemmas
 pub mod SubjectLemmas
 pub mod UnfittingLemmas

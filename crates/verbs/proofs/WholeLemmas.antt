@@ -1,5 +1,5 @@
 -- Of models of the whole language that are written out and fitted, what is refused, what is judged and what is written.
-use Rattle.std.proofs.Common.{◌≡◌, inl, inr, ℕ, Bool, List, [], ◌∷◌, ◌++◌, Option, Some, None, IfSome, Result, Ok, Err, IfOk, IfErr, is_some, refl, subst, ap}
+use Rattle.std.proofs.Common.{◌≡◌, inl, inr, ℕ, Bool, List, [], ◌∷◌, ◌++◌, Option, Some, None, IfSome, Result, Ok, Err, IfOk, IfErr, is_some, length, refl, subst, ap}
 use Rattle.std.specs.Io.KnownBytes.{Appends}
 use Rattle.std.specs.List.{AllZip}
 use Rattle.btor2.specs.declared.item.Item.{Item}
@@ -7,7 +7,8 @@ use Rattle.wide.specs.WideModels.{greatest_width, IsWideModel}
 use Rattle.celled.specs.Whole.{IsWhole}
 use Rattle.fit.specs.Fitting.{Layout}
 use Rattle.fitting.specs.Laid.{AreWords}
-use Rattle.full.specs.Lines.{FullLine, Sort}
+use Rattle.btor2.specs.Items.{is_bad}
+use Rattle.full.specs.Lines.{FullLine, Sort, lines_of}
 use Rattle.fulljudge.specs.Cells.{HasWordsOf}
 use Rattle.fulljudge.specs.Judged.{IsJudgeable}
 use Rattle.fulljudge.specs.Judgements.{judged_by}
@@ -28,8 +29,10 @@ use Rattle.verbs.specs.declared.refusals.Fault.TheVariants as fault
 use Rattle.verbs.specs.declared.refusals.Refusal.{Refusal}
 use Rattle.verbs.specs.declared.refusals.Refusal.TheVariants as refusal
 use Rattle.verbs.specs.declared.whole.Whole.{Whole}
-use Rattle.verbs.specs.Fitting.{IsNotFit, IsNotFitted}
+use Rattle.verbs.specs.Asked.{AsksForNone, IsNotFittedWith, is_symbol_of}
+use Rattle.verbs.specs.Fitting.{IsNoWholeModel, IsNotFit, IsNotFitted}
 use Rattle.verbs.specs.Statuses.{IfInput}
+use Rattle.verbs.specs.Subjects.{whole_told}
 use Rattle.verbs.specs.Unfitting.{IsSpreadWide}
 use Rattle.verbs.specs.Whole.{IsJudgedByWhole, IsJudgedFitted, IsJudgedWhole, IsNotWhole, IsSpread, IsSpreadByWhole, IsSpreadWhole, IsUnfittedByWhole, IsUnfittedWhole, IsWholeOf}
 use Rattle.verbs.proofs.FittedLemmas.{not_fitted, seen}
@@ -43,6 +46,41 @@ not_fit_whole text lines (refusal.Input (fault.Writing e)) stands h = record { l
 not_fit_whole text lines (refusal.Input (fault.Fitting e)) stands h = inr (record { lines = lines; stands = stands; wide = h.0; written = h.1; unfit = h.2 })
 not_fit_whole text lines (refusal.Input _) stands h = absurd h
 not_fit_whole text lines _ stands h = tt
+
+-- ---- the same where a word may ask for a bad property
+
+-- what refuses a text that is of no model
+pub no_model_with : (word known : Option (List ℕ)) (x : Refusal) → IfInput (IsNoWholeModel known) x → IfInput (IsNotFittedWith word known) x
+no_model_with None known (refusal.Input (fault.Model e)) h = h
+no_model_with (Some word) known (refusal.Input (fault.Model e)) h = h
+no_model_with word known (refusal.Input _) h = absurd h
+no_model_with word known _ h = tt
+
+-- what keeps the model from being written out, or fitted
+fits_not : (known : Option (List ℕ)) (lines : List FullLine) (f : Fault) → IfSome known (λ text. StandsForFull text lines) → IsNotWhole lines f → IsNotFitted known f
+fits_not None lines (fault.Writing e) stands h = tt
+fits_not None lines (fault.Fitting e) stands h = tt
+fits_not (Some text) lines (fault.Writing e) stands h = record { lines = lines; stands = stands; unwritten = h }
+fits_not (Some text) lines (fault.Fitting e) stands h = inr (record { lines = lines; stands = stands; wide = h.0; written = h.1; unfit = h.2 })
+fits_not known lines _ stands h = absurd h
+
+pub not_whole_with : (word known : Option (List ℕ)) (lines : List FullLine) (x : Refusal) → IfSome known (λ text. StandsForFull text lines) → IfInput (IsNotWhole lines) x
+    → IfInput (IsNotFittedWith word known) x
+not_whole_with None known lines (refusal.Input f) stands h = fits_not known lines f stands h
+not_whole_with (Some word) known lines (refusal.Input (fault.Writing e)) stands h = fits_not known lines (fault.Writing e) stands h
+not_whole_with (Some word) known lines (refusal.Input (fault.Fitting e)) stands h = fits_not known lines (fault.Fitting e) stands h
+not_whole_with word known lines (refusal.Input _) stands h = absurd h
+not_whole_with word known lines _ stands h = tt
+
+-- what a word asks for in vain
+pub unasked_whole : (word known : Option (List ℕ)) (full : List FullLine) (f : Fault) → IfSome known (λ text. StandsForFull text full)
+    → AsksForNone word (length (lines_of is_bad full)) (is_symbol_of (whole_told full)) f → IsNotFittedWith word known f
+unasked_whole None known full f stands none = absurd none
+unasked_whole (Some word) known full (fault.Engine e) stands none = record { full = full; text = stands; unasked = none }
+unasked_whole (Some word) known full (fault.SameName j k) stands none = record { full = full; text = stands; unasked = none }
+unasked_whole (Some word) known full _ stands none = absurd none
+
+-- ---- what is refused for nothing
 
 -- what refuses no input refuses none for this
 pub never_input : (P : Fault → Type 0) (x : Refusal) → IfInput (λ f. ⊥) x → IfInput P x

@@ -1,10 +1,12 @@
 -- Which bad property a word asks for (this project's).
-use Rattle.std.specs.Prelude.{◌≡◌, ℕ, ◌<◌, ◌≤◌, Bool, true, false, List, length, Option, Some, None, option_and_then, slice_get}
+use Rattle.std.specs.Prelude.{◌≡◌, ℕ, ◌<◌, ◌≤◌, Bool, true, false, List, length, Option, Some, None, IfSome, option_and_then, slice_get}
 use Rattle.std.specs.Str.{bytes_eq}
 use Rattle.base.specs.Decimals.{number_of}
 use Rattle.btor2.specs.declared.item.Item.{Item}
 use Rattle.btor2.specs.Items.{is_bad}
 use Rattle.btor2.specs.Lists.{places}
+use Rattle.full.specs.Lines.{FullLine, lines_of}
+use Rattle.fulltext.specs.Spelling.{StandsForFull}
 use Rattle.btor2text.specs.Spelling.{IsModelOf}
 use Rattle.aiger.specs.declared.circuit.Section.TheVariants as section
 use Rattle.aiger.specs.Circuit.{Circuit, name_of}
@@ -20,7 +22,8 @@ use Rattle.verbs.specs.declared.refusals.Fault.TheVariants as fault
 use Rattle.verbs.specs.declared.subjects.Subject.{Subject}
 use Rattle.verbs.specs.declared.subjects.Subject.TheVariants as subject
 use Rattle.verbs.specs.Refusals.{IsNotClaimable, IsNotJudged, IsNoCircuit}
-use Rattle.verbs.specs.Subjects.{numbered_item}
+use Rattle.verbs.specs.Fitting.{IsNotFitted}
+use Rattle.verbs.specs.Subjects.{Name, Told, counts_of, lines_told, model_told, whole_told}
 
 -- ---- what a word asks for
 
@@ -30,8 +33,8 @@ is_name word None = false
 is_name word (Some name) = bytes_eq name word
 
 -- the bad property of a model at a position has a word as its symbol
-abbrev pub is_symbol_of : List Item → List ℕ → ℕ → Bool
-is_symbol_of items word k = is_name word (option_and_then (λ x. x.symbol) (numbered_item is_bad items k))
+abbrev pub is_symbol_of : Told → List ℕ → ℕ → Bool
+is_symbol_of told word k = is_name word (option_and_then (λ (x : Name). x.symbol) (told.bad k))
 
 -- that of a circuit has it as its name
 abbrev pub is_name_of : Circuit → List ℕ → ℕ → Bool
@@ -61,14 +64,14 @@ IsUnaskedBy position count called _ = ⊥
 
 -- how many bad properties there are, and which of them are called by a word
 abbrev pub bad_count : Subject → ℕ
-bad_count (subject.Model m) = length (places is_bad 0 m.now)
+bad_count (subject.Model lines) = (counts_of lines).bads
 bad_count (subject.Circuit c) = length c.now.bads
-bad_count (subject.Lowered m c) = length (places is_bad 0 m.now)
+bad_count (subject.Lowered lines c) = (counts_of lines).bads
 
 abbrev pub is_called : Subject → List ℕ → ℕ → Bool
-is_called (subject.Model m) word k = is_symbol_of m.now word k
+is_called (subject.Model lines) word k = is_symbol_of (lines_told lines) word k
 is_called (subject.Circuit c) word k = is_name_of c.now word k
-is_called (subject.Lowered m c) word k = is_symbol_of m.now word k
+is_called (subject.Lowered lines c) word k = is_symbol_of (lines_told lines) word k
 
 -- what a command asks for: nothing; or the bad property of a word
 abbrev pub AsksFor : Option (List ℕ) → ℕ → (List ℕ → ℕ → Bool) → Option ℕ → Type 0
@@ -105,7 +108,13 @@ outcome claim claimed j = outcome_is.Judged j
 pub record LacksAsked (word : List ℕ) (known : Option (List ℕ)) (f : Fault) : Type 0 where
   pub items : List Item
   pub text : IsModelOf known items
-  pub unasked : IsUnaskedBy (number_of word) (length (places is_bad 0 items)) (is_symbol_of items word) f
+  pub unasked : IsUnaskedBy (number_of word) (length (places is_bad 0 items)) (is_symbol_of (model_told items) word) f
+
+-- the same of a model of the whole language
+pub record LacksAskedWhole (word : List ℕ) (known : Option (List ℕ)) (f : Fault) : Type 0 where
+  pub full : List FullLine
+  pub text : IfSome known (λ text. StandsForFull text full)
+  pub unasked : IsUnaskedBy (number_of word) (length (lines_of is_bad full)) (is_symbol_of (whole_told full) word) f
 
 -- the same of a circuit
 pub record LacksAskedOver (word : List ℕ) (known : Option (List ℕ)) (f : Fault) : Type 0 where
@@ -125,6 +134,12 @@ IsNotJudgedOverFor word known (fault.Engine e) = LacksAskedOver word known (faul
 IsNotJudgedOverFor word known (fault.SameName j k) = LacksAskedOver word known (fault.SameName j k)
 IsNotJudgedOverFor word known f = IsNoCircuit known f
 
+-- the first text is of no model that is fitted, or of one of which no bad property is asked for
+abbrev pub IsNotFittedFor : List ℕ → Option (List ℕ) → Fault → Type 0
+IsNotFittedFor word known (fault.Engine e) = LacksAskedWhole word known (fault.Engine e)
+IsNotFittedFor word known (fault.SameName j k) = LacksAskedWhole word known (fault.SameName j k)
+IsNotFittedFor word known f = IsNotFitted known f
+
 -- the same of a command that may ask for one
 abbrev pub IsNotJudgedWith : Option (List ℕ) → Option (List ℕ) → Fault → Type 0
 IsNotJudgedWith None known f = IsNotJudged known f
@@ -133,3 +148,7 @@ IsNotJudgedWith (Some word) known f = IsNotJudgedFor word known f
 abbrev pub IsNotJudgedOverWith : Option (List ℕ) → Option (List ℕ) → Fault → Type 0
 IsNotJudgedOverWith None known f = IsNotClaimable given.Circuit known f
 IsNotJudgedOverWith (Some word) known f = IsNotJudgedOverFor word known f
+
+abbrev pub IsNotFittedWith : Option (List ℕ) → Option (List ℕ) → Fault → Type 0
+IsNotFittedWith None known f = IsNotFitted known f
+IsNotFittedWith (Some word) known f = IsNotFittedFor word known f

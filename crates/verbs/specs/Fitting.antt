@@ -97,6 +97,11 @@ IsNotFitted known (fault.Fitting e) = IfSome known (λ text. IsNotFit text (faul
 IsNotFitted known (fault.Writing e) = IfSome known (λ text. IsNotFit text (fault.Writing e))
 IsNotFitted known _ = ⊥
 
+-- the first text stands for no model of the whole language, and this is its first fault
+abbrev pub IsNoWholeModel : Option (List ℕ) → Fault → Type 0
+IsNoWholeModel known (fault.Model e) = IfSome known (λ text. IsFullFaultOf text e)
+IsNoWholeModel known _ = ⊥
+
 -- a text stands for this model of the profile, each of whose states has a next or is free, or for none
 abbrev pub IsProfileOf : List ℕ → Option (List Item) → Type 0
 IsProfileOf text (Some items) = StandsFor text items × (first_init_without_next items items ≡ None)
@@ -124,3 +129,8 @@ pub record FitsFirst (known : Option (List ℕ)) (narrow : List Item) : Type 0 w
   pub stands : IfSome known (λ text. StandsForFull text lines)
   pub fitted : IfSome known (λ text. IsFitText text narrow)
   pub rise_alike : (b : ℕ) → CanRiseFull lines b ↔ CanRise narrow b
+
+-- The same, and these are the lines of that model.
+pub record FitsWhole (known : Option (List ℕ)) (narrow : List Item) (full : List FullLine) : Type 0 where
+  pub fits : FitsFirst known narrow
+  pub lines : fits.lines ≡ full

@@ -13,6 +13,8 @@ use Rattle.blast.specs.Refusal.{lowering_refusal}
 use Rattle.invocation.specs.declared.tasks.Given.{Given}
 use Rattle.invocation.specs.declared.tasks.Given.TheVariants as given
 use Rattle.verbs.specs.declared.given.GivenCircuit.{GivenCircuit}
+use Rattle.verbs.specs.declared.given.GivenModel.{GivenModel}
+use Rattle.verbs.specs.declared.given.GivenModel.TheVariants as given_model
 use Rattle.verbs.specs.declared.given.Lowered.{Lowered}
 use Rattle.verbs.specs.Fitting.{FitsFirst}
 
@@ -48,13 +50,13 @@ IsGivenNumbering given.Model first c n = n ≡ None
 IsGivenNumbering given.Fitted first c n = n ≡ None
 IsGivenNumbering given.Circuit first c n = IfSome first (λ text. IsNumberingOfText text c n)
 
--- the model that the circuit of the first text lowers, where that gives one: the text's, or the one that this is fitted into
-abbrev pub HasItsModel : (g : Given) → (first : Option (List ℕ)) → (c : Circuit) → GivesItsCircuit g first c → Option (List Item) → Type 0
-HasItsModel given.Model first c gives m = m ≡ Some gives.items
-HasItsModel given.Fitted first c gives m = m ≡ Some gives.narrow
+-- the model of the first text, where it is of one
+abbrev pub HasItsModel : (g : Given) → (first : Option (List ℕ)) → (c : Circuit) → GivesItsCircuit g first c → Option GivenModel → Type 0
+HasItsModel given.Model first c gives m = m ≡ Some (given_model.Profile gives.items)
+HasItsModel given.Fitted first c gives m = m ≡ Some (given_model.Whole gives.fits.lines)
 HasItsModel given.Circuit first c gives m = m ≡ None
 
--- what was read is what the first text gives: its circuit, the numbering of that, and the model that it lowers
+-- what was read is what the first text gives: its circuit, the numbering of that, and the model
 pub record IsGiven (g : Given) (first : Option (List ℕ)) (r : GivenCircuit) : Type 0 where
   pub gives : GivesItsCircuit g first r.circuit
   pub is_numbering : IsGivenNumbering g first r.circuit r.numbering

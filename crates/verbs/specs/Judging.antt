@@ -11,6 +11,10 @@ use Rattle.aiger.specs.Circuit.{Circuit, IsCircuit}
 use Rattle.aigertext.specs.Spelling.{IsCircuitText}
 use Rattle.reached.specs.Accepted.{Reaches, ReachesInCircuit}
 use Rattle.rises.specs.FirstRises.{AreBitFirstRises, word_first_rises}
+use Rattle.full.specs.Lines.{lines_of}
+use Rattle.fulljudge.specs.Rises.{JudgesFullWithRises, full_claimed}
+use Rattle.fulltext.specs.Spelling.{StandsForFull}
+use Rattle.spread.specs.Spread.{IsShort}
 use Rattle.vcd.specs.Dumps.{vcd_text}
 use Rattle.vcd.specs.declared.scope.Shown.{Shown}
 use Rattle.witness.specs.BitJudgements.{BitJudges}
@@ -21,8 +25,10 @@ use Rattle.witness.specs.declared.judgement.Judgement.{Judgement}
 use Rattle.witness.specs.declared.judgement.Judgement.TheVariants as judgement
 use Rattle.verbs.specs.Asked.{AsksFor, is_claimed, is_name_of, is_symbol_of, outcome}
 use Rattle.verbs.specs.Claims.{CanBeClaimed}
+use Rattle.verbs.specs.Subjects.{model_told, whole_told}
 use Rattle.verbs.specs.declared.judging.JudgedOverCircuit.{JudgedOverCircuit}
 use Rattle.verbs.specs.declared.judging.JudgedOverModel.{JudgedOverModel}
+use Rattle.verbs.specs.declared.judging_whole.JudgedOverWhole.{JudgedOverWhole}
 
 -- a judgement is that the witness is accepted
 abbrev pub IsAccepted : Judgement → Type 0
@@ -55,11 +61,22 @@ pub record IsJudgedFor (word model witness : Option (List ℕ)) (r : JudgedOverM
   pub text : IsModelOf model r.model
   pub well_formed : IsWellFormed r.model
   pub each_has_next_or_is_free : first_init_without_next r.model r.model ≡ None
-  pub asked : AsksFor word (length (places is_bad 0 r.model)) (is_symbol_of r.model) claim
+  pub asked : AsksFor word (length (places is_bad 0 r.model)) (is_symbol_of (model_told r.model)) claim
   pub judged : IfSome witness (λ text. Judges r.model text verdict)
   pub reached : IfSome witness (λ text. Reaches r.model text verdict)
   pub claims : IfSome witness (λ text. IsAccepted verdict → claimed ≡ is_claimed claim (word_claimed r.model text))
   pub rises : IfSome witness (λ text. (fs : List Frame) → IsClosedTrace r.model text fs → r.firsts ≡ word_first_rises r.model text fs)
+  pub outcome : r.outcome ≡ outcome claim claimed verdict
+
+-- The same over a model of the whole language, of a witness of at most 2^44 lines; the first rises are those in the run by which it is judged.
+pub record IsJudgedWholeFor (word model witness : Option (List ℕ)) (r : JudgedOverWhole) : Type 0 where
+  pub claim : Option ℕ
+  pub verdict : Judgement
+  pub claimed : Bool
+  pub stands : IfSome model (λ text. StandsForFull text r.model)
+  pub asked : AsksFor word (length (lines_of is_bad r.model)) (is_symbol_of (whole_told r.model)) claim
+  pub judged : IfSome witness (λ text. IsShort text → JudgesFullWithRises r.model text verdict r.firsts)
+  pub claims : IfSome witness (λ text. IsShort text → IsAccepted verdict → claimed ≡ is_claimed claim (full_claimed r.model text))
   pub outcome : r.outcome ≡ outcome claim claimed verdict
 
 -- The same over a circuit with a bad property, or without outputs.

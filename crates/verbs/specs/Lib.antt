@@ -9,6 +9,7 @@ pub mod Given
 pub mod Judging
 pub mod Lifting
 pub mod Outputs
+pub mod Places
 pub mod Refusals
 pub mod Restoring
 pub mod Statuses

@@ -3,12 +3,13 @@
 ghost use Rattle.std.specs.Prelude.{◌≡◌, ℕ, Bool, Option, ◌<◌, ◌≤◌, true, false, None, IfOk, IfErr, IfSome, option_map};
 ghost use Rattle.base.specs.Decimals.{number_of};
 ghost use Rattle.verbs.specs.Asked.{AsksFor, AsksForNone, IsAskedBy, IsUnaskedBy, IsUnknown, bad_count, is_called, is_name, is_name_of, is_symbol_of};
+ghost use Rattle.verbs.specs.Subjects.{lines_told};
 
 use crate::refusals::Fault;
-use crate::subjects::{Subject, item_of};
+use crate::subjects::{Lines, Subject};
 use aiger::{Circuit, Section};
 use base::decimal;
-use btor2::{Model, Symbol};
+use btor2::Symbol;
 use engine_form::EngineFault;
 
 /// How many bad properties there are.
@@ -16,7 +17,7 @@ fn bad_count(subject: Subject<'_>) -> usize
     ensures { result ≡ bad_count subject.entry }
 {
     match subject {
-        Subject::Model(model) | Subject::Lowered(model, _) => model.bads().len(),
+        Subject::Model(lines) | Subject::Lowered(lines, _) => lines.counts().bads,
         Subject::Circuit(circuit) => circuit.bads().len(),
     }
 }
@@ -32,11 +33,11 @@ fn is_symbol(symbol: &Option<Symbol>, word: &[u8]) -> bool
 }
 
 /// Whether the bad property of a model at a position has a word as its symbol.
-fn is_symbol_of(model: &Model, word: &[u8], position: usize) -> bool
-    ensures { result ≡ is_symbol_of model.now word.now position }
+fn is_symbol_of(lines: Lines<'_>, word: &[u8], position: usize) -> bool
+    ensures { result ≡ is_symbol_of (lines_told lines.entry) word.now position }
 {
-    match item_of(model, model.bads(), position as u64) {
-        Some(item) => is_symbol(&item.symbol, word),
+    match lines.bad(position as u64) {
+        Some(named) => is_symbol(named.symbol, word),
         None => false,
     }
 }
@@ -56,7 +57,7 @@ fn is_called(subject: Subject<'_>, word: &[u8], position: usize) -> bool
     ensures { result ≡ is_called subject.entry word.now position }
 {
     match subject {
-        Subject::Model(model) | Subject::Lowered(model, _) => is_symbol_of(model, word, position),
+        Subject::Model(lines) | Subject::Lowered(lines, _) => is_symbol_of(lines, word, position),
         Subject::Circuit(circuit) => is_name_of(circuit, word, position),
     }
 }

@@ -6,11 +6,12 @@ ghost use Rattle.celled.specs.Written.{HasNodes, IsWrittenInCells};
 ghost use Rattle.fulltext.specs.Spelling.{StandsForFull};
 ghost use Rattle.widetext.specs.Spelling.{StandsForWide};
 ghost use Rattle.verbs.specs.Conversions.{of_fitting_written};
-ghost use Rattle.verbs.specs.Fitting.{FitsFirst, IsFitText, IsKept, IsNotFit, IsNotFitted, IsOfWords, IsProfileOf, IsWritingFault, WritesFitting};
+ghost use Rattle.verbs.specs.Fitting.{FitsFirst, FitsWhole, IsFitText, IsKept, IsNoWholeModel, IsNotFit, IsNotFitted, IsOfWords, IsProfileOf, IsWritingFault, WritesFitting};
 ghost use Rattle.verbs.specs.Statuses.{Ends, IfInput};
 ghost use Rattle.verbs.specs.Statuses.Use.{Unused, Used};
 
 use crate::refusals::{Device, Fault, Refusal};
+use crate::whole_model::WholeModel;
 use base::{Sink, Source, read_all};
 use btor2::Model;
 use btor2text::{Why, write};
@@ -92,6 +93,7 @@ fn fit_words(alloc: Global, text: &[u8], wide: WideModel) -> Result<Model, Refus
 pub(crate) fn read_whole(alloc: Global, text: &[u8]) -> Result<FullModel, Refusal>
     ensures stands { IfOk result (StandsForFull text.now) }
     ensures refused { IfErr result (IfInput (IsNotFit text.now)) }
+    ensures no_model { IfErr result (IfInput (IsNoWholeModel (Some text.now))) }
     ensures ends { Ends result Unused Unused Unused Unused }
 {
     match fulltext::read(alloc, text) {
@@ -200,6 +202,44 @@ pub(crate) fn read_fitted<A: Source>(alloc: Global, first: &mut A) -> Result<Mod
 {
     let text = read_all(alloc, first)?;
     fit_text(alloc, text.as_slice())
+}
+
+/// The model of the whole language that a text stands for, with the lines that are told by their numbers.
+pub(crate) fn whole_model_of(alloc: Global, text: &[u8]) -> Result<WholeModel, Refusal>
+    ensures stands { IfOk result (StandsForFull text.now) }
+    ensures refused { IfErr result (IfInput (IsNotFit text.now)) }
+    ensures no_model { IfErr result (IfInput (IsNoWholeModel (Some text.now))) }
+    ensures ends { Ends result Unused Unused Unused Unused }
+{
+    let model = read_whole(alloc, text)?;
+    Ok(WholeModel::new(alloc, model)?)
+}
+
+/// The model that a text is fitted into, and behind it the one of the whole language that it stands for.
+fn fit_and_keep(alloc: Global, text: &[u8]) -> Result<(Model, WholeModel), Refusal>
+    ensures fits { IfOk result (λ both. IsFitText text.now both.0 × StandsForFull text.now both.1) }
+    ensures refused { IfErr result (IfInput (IsNotFit text.now)) }
+    ensures ends { Ends result Unused Unused Unused Unused }
+{
+    let whole = whole_model_of(alloc, text)?;
+    match fit_text(alloc, text) {
+        Ok(narrow) => Ok((narrow, whole)),
+        Err(refusal) => Err(refusal),
+    }
+}
+
+/// Reads the first text as a model of the whole language, fits it, and answers the fitted model and that one.
+pub(crate) fn read_fitted_and_whole<A: Source>(
+    alloc: Global,
+    first: &mut A,
+) -> Result<(Model, WholeModel), Refusal>
+    ensures fits { IfOk result (λ both. FitsWhole (A.to_come first.old) both.0 both.1) }
+    ensures refused { IfErr result (IfInput (IsNotFitted (A.to_come first.old))) }
+    ensures ends { Ends result (Used A.failures first.old first.new) Unused Unused Unused }
+{
+    fulltext::laws::texts_are_read();
+    let text = read_all(alloc, first)?;
+    fit_and_keep(alloc, text.as_slice())
 }
 
 /// Writes the model that a text is fitted into.

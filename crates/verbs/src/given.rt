@@ -8,11 +8,14 @@ ghost use Rattle.invocation.specs.declared.tasks.Given.TheVariants as given_is;
 ghost use Rattle.verbs.specs.Given.{IsGiven, IsLowered, IsLoweredFitted};
 ghost use Rattle.verbs.specs.Refusals.{IsAgainst, IsNoCircuit, IsNotGiven, IsNotLowered, IsNotLoweredFitted};
 ghost use Rattle.verbs.specs.Statuses.{Ends, IfInput};
+ghost use Rattle.verbs.specs.Subjects.{given_told, lines_told};
 ghost use Rattle.verbs.specs.Statuses.Use.{Unused, Used};
 
-use crate::fitted::read_fitted;
+use crate::fitted::{read_fitted, read_fitted_and_whole};
 use crate::reading::read_model;
 use crate::refusals::Refusal;
+use crate::subjects::Lines;
+use crate::whole_model::WholeModel;
 use aiger::Circuit;
 use aigerlists::Numbering;
 use aigertext::read_numbered;
@@ -31,12 +34,32 @@ pub struct Lowered {
     pub circuit: Circuit,
 }
 
-/// What a first text gives: a circuit, the model that it lowers, where that is what is given or what it is fitted into, and the
-/// numbering of the circuit's text.
+/// The model of a first text.
+#[derive(Drop)]
+pub enum GivenModel {
+    /// One of the profile.
+    Profile(Model),
+    /// One of the whole language, which was fitted.
+    Whole(WholeModel),
+}
+
+impl GivenModel {
+    /// Its lines, by the numbers by which judgements tell them.
+    pub fn lines(&self) -> Lines<'_>
+        ensures { lines_told result ≡ given_told self.now }
+    {
+        match self {
+            GivenModel::Profile(model) => Lines::Profile(model),
+            GivenModel::Whole(model) => Lines::Whole(model),
+        }
+    }
+}
+
+/// What a first text gives: a circuit, the model, where the text is of one, and the numbering of the circuit's text.
 #[derive(Drop)]
 pub struct GivenCircuit {
     /// The model, where the text is of one.
-    pub model: Option<Model>,
+    pub model: Option<GivenModel>,
     /// The circuit.
     pub circuit: Circuit,
     /// The numbering of its text; where it lowers a model, its own.
@@ -98,7 +121,7 @@ fn give_lowered<A: Source, W: Watch>(
 {
     let Lowered { model, circuit } = lower_first(alloc, first, watch)?;
     Ok(GivenCircuit {
-        model: Some(model),
+        model: Some(GivenModel::Profile(model)),
         circuit,
         numbering: Numbering::own(),
     })
@@ -114,9 +137,10 @@ fn give_fitted<A: Source, W: Watch>(
     ensures refused { IfErr result (IfInput (IsNotLoweredFitted (A.to_come first.old))) }
     ensures ends { Ends result (Used A.failures first.old first.new) Unused Unused Unused }
 {
-    let Lowered { model, circuit } = lower_fitted_first(alloc, first, watch)?;
+    let (narrow, whole) = read_fitted_and_whole(alloc, first)?;
+    let circuit = lower_model(alloc, &narrow, watch)?;
     Ok(GivenCircuit {
-        model: Some(model),
+        model: Some(GivenModel::Whole(whole)),
         circuit,
         numbering: Numbering::own(),
     })

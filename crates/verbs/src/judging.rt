@@ -13,7 +13,7 @@ use crate::claims::claimable;
 use crate::outcomes::{Outcome, outcome_of};
 use crate::reading::{read_circuit, read_model};
 use crate::refusals::Refusal;
-use crate::subjects::Subject;
+use crate::subjects::{Lines, Subject};
 use aiger::Circuit;
 use base::Source;
 use btor2::Model;
@@ -109,7 +109,7 @@ pub fn judge_for_model<A: Source, B: Source>(
     accepted_claims_rise();
     exactly_one_list();
     let model = read_model(alloc, first)?;
-    let claim = asked(Subject::Model(&model), word)?;
+    let claim = asked(Subject::Model(Lines::Profile(&model)), word)?;
     match judge_words_with_rises(alloc, &model, second) {
         Ok((judgement, firsts)) => {
             let outcome = outcome_of(&judgement, &firsts, claim);

@@ -1,6 +1,8 @@
 //! Witnesses of models of the whole language, by the models of the profile that these are fitted into.
 
-ghost use Rattle.std.specs.Prelude.{◌≡◌, ◌++◌, IfErr, IfOk};
+ghost use Rattle.std.specs.Prelude.{◌≡◌, ◌++◌, IfErr, IfOk, IfSome};
+ghost use Rattle.fulljudge.specs.Rises.{JudgesFullWithRises};
+ghost use Rattle.spread.specs.Spread.{IsShort};
 ghost use Rattle.celled.specs.Written.{HasNodes, IsWrittenInCells};
 ghost use Rattle.verbs.specs.Statuses.{Ends, IfInput};
 ghost use Rattle.verbs.specs.Statuses.Use.{Unused, Used};
@@ -12,10 +14,11 @@ use base::{Sink, Source};
 use btor2::Model;
 use celled::Celled;
 use fitting::{Fitted, fit_with_places};
-use fulljudge::{StateWords, Values, judge_full, spread_full};
+use fulljudge::{StateWords, Values, judge_full, judge_full_with_rises, spread_full};
 use fullmodel::FullModel;
 use fullunfit::{names_of, unfit_full};
 use rejoin::Shape;
+use rises::FirstRises;
 use std::alloc::Global;
 use witness::Judgement;
 
@@ -111,6 +114,34 @@ pub(crate) fn judge_whole<B: Source>(
         second,
     ) {
         Ok(judgement) => Ok(judgement),
+        Err(fault) => Err(Refusal::from(fault)),
+    }
+}
+
+/// The same, with in which frames the claims of an acceptance are reached first.
+pub(crate) fn judge_whole_with_rises<B: Source>(
+    alloc: Global,
+    model: &FullModel,
+    whole: &Whole,
+    second: &mut B,
+) -> Result<(Judgement, FirstRises), Refusal>
+    requires whole { IsWholeOf model.now whole.now }
+    ensures judged { IfOk result (λ told. IfSome (B.to_come second.old)
+        (λ text. IsShort text → JudgesFullWithRises model.now text told.0 told.1)) }
+    ensures refused { IfErr result (IfInput (λ f. ⊥)) }
+    ensures ends { Ends result Unused (Used B.failures second.old second.new) Unused Unused }
+{
+    fulljudge::laws::cells_are_words();
+    match judge_full_with_rises(
+        alloc,
+        &whole.states,
+        &whole.inputs,
+        &whole.words,
+        &whole.shape,
+        &whole.narrow,
+        second,
+    ) {
+        Ok(told) => Ok(told),
         Err(fault) => Err(Refusal::from(fault)),
     }
 }

@@ -1,5 +1,5 @@
 -- What the words of a command line say: an order, or a list of judgements.
-use Rattle.std.specs.Prelude.{◌≡◌, ℕ, ◌+◌, nat_le, Bool, true, false, not, ◌&&◌, ◌||◌, if◌then◌else◌, List, [], ◌∷◌, length, slice_get, Option, Some, None, is_some, MatchOption, codes, option_map, option_and_then}
+use Rattle.std.specs.Prelude.{◌≡◌, ℕ, ◌+◌, nat_le, Bool, true, false, not, ◌&&◌, if◌then◌else◌, List, [], ◌∷◌, length, slice_get, Option, Some, None, is_some, MatchOption, codes, option_map, option_and_then}
 use Rattle.std.specs.Option.{option_eq, unwrap_or}
 use Rattle.std.specs.List.{count_by, find, list_all, list_any}
 use Rattle.std.specs.Str.{bytes_eq}
@@ -53,15 +53,11 @@ files (_ ∷ ps) = files ps
 
 -- ---- which parts a command takes
 
--- there is a part that a flag alone goes with none of
-abbrev pub has_telling : List Said → Bool
-has_telling ps = has (codes "names") ps || (has (codes "bad") ps || has (codes "json") ps)
-
 -- a part is a word of this kind and name, with a value as it takes it, and with the flag that it goes with
 abbrev pub fits : List Said → Kind → List ℕ → Said → Bool
 fits ps kind.File name (a_file w) = true
 fits ps kind.Flag name (a_flag n) = bytes_eq n name
-fits ps kind.FlagAlone name (a_flag n) = bytes_eq n name && not (has_telling ps)
+fits ps kind.FlagWithoutNames name (a_flag n) = bytes_eq n name && not (has (codes "names") ps)
 fits ps kind.FlagOnModel name (a_flag n) = bytes_eq n name && not (has (codes "aiger") ps)
 fits ps kind.FlagWithCircuit name (a_flag n) = bytes_eq n name && has (codes "circuit") ps
 fits ps kind.FlagWithEngine name (a_flag n) = bytes_eq n name && has (codes "engine") ps
@@ -92,7 +88,7 @@ task_of verb.Lower ps = Some
     then (if has (codes "fit") ps then task.Model (model.LowerFittedForEngines (position ps)) else task.Model (model.LowerForEngines (position ps)))
     else (if has (codes "fit") ps then task.Model model.LowerFitted else task.Text text.Lower))
 task_of verb.CheckBtor ps = Some (task.Model (if has (codes "fit") ps then model.CheckFitted else model.CheckBtor))
-task_of verb.Show ps = Some (task.Model model.Show)
+task_of verb.Show ps = Some (task.Model (if has (codes "fit") ps then model.ShowWhole else model.Show))
 task_of verb.Cost ps = Some (task.Model (if has (codes "fit") ps then model.CostFitted else model.Cost))
 task_of verb.Fit ps = Some (task.Text text.Fit)
 task_of verb.Unfit ps = Some (task.Model (if has (codes "back") ps then model.Spread else model.Unfit))

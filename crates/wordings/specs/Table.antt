@@ -38,13 +38,13 @@ words_of verb.Lower =
     ∷ (codes "bad", kind.PositionWithEngine) ∷ (codes "fit", kind.FlagOnModel) ∷ []
 words_of verb.CheckBtor =
     (codes "MODEL", kind.File) ∷ (codes "quiet", kind.Flag) ∷ (codes "WITNESS", kind.File)
-    ∷ (codes "names", kind.Flag) ∷ (codes "bad", kind.Text) ∷ (codes "json", kind.Flag) ∷ (codes "fit", kind.FlagAlone) ∷ []
-words_of verb.Show = (codes "MODEL", kind.File) ∷ (codes "quiet", kind.Flag) ∷ (codes "output", kind.Text) ∷ []
+    ∷ (codes "names", kind.Flag) ∷ (codes "bad", kind.Text) ∷ (codes "json", kind.Flag) ∷ (codes "fit", kind.FlagOnModel) ∷ []
+words_of verb.Show = (codes "MODEL", kind.File) ∷ (codes "quiet", kind.Flag) ∷ (codes "output", kind.Text) ∷ (codes "fit", kind.FlagOnModel) ∷ []
 words_of verb.Cost = (codes "MODEL", kind.File) ∷ (codes "quiet", kind.Flag) ∷ (codes "fit", kind.FlagOnModel) ∷ []
 words_of verb.Fit = (codes "MODEL", kind.File) ∷ (codes "quiet", kind.Flag) ∷ (codes "output", kind.Text) ∷ []
 words_of verb.Unfit =
     (codes "MODEL", kind.File) ∷ (codes "quiet", kind.Flag) ∷ (codes "WITNESS", kind.File)
-    ∷ (codes "output", kind.Text) ∷ (codes "names", kind.Flag) ∷ (codes "back", kind.FlagAlone) ∷ []
+    ∷ (codes "output", kind.Text) ∷ (codes "names", kind.Flag) ∷ (codes "back", kind.FlagWithoutNames) ∷ []
 words_of verb.AigConvert =
     (codes "CIRCUIT", kind.File) ∷ (codes "quiet", kind.Flag) ∷ (codes "output", kind.Text)
     ∷ (codes "ascii", kind.Flag) ∷ (codes "binary", kind.Flag) ∷ (codes "outputs", kind.Flag)

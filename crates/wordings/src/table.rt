@@ -49,8 +49,8 @@ pub enum Kind {
     File,
     /// A flag.
     Flag,
-    /// A flag that goes with none of `--names`, `--bad` and `--json`.
-    FlagAlone,
+    /// A flag that goes without `--names`.
+    FlagWithoutNames,
     /// A flag that goes with a model, and so without `--aiger`.
     FlagOnModel,
     /// A flag that goes with `--circuit`.
@@ -131,14 +131,9 @@ const FIT: Word = Word {
     kind: Kind::FlagOnModel,
 };
 
-const JUDGED_FIT: Word = Word {
-    name: "fit",
-    kind: Kind::FlagAlone,
-};
-
 const BACK: Word = Word {
     name: "back",
-    kind: Kind::FlagAlone,
+    kind: Kind::FlagWithoutNames,
 };
 
 const JSON: Word = Word {
@@ -281,16 +276,8 @@ pub fn words_of(verb: Verb) -> &'static [Word]
         Verb::Lower => &[
             MODEL_FILE, QUIET, OUTPUT, ASCII, BINARY, ENGINE, ENGINE_BAD, FIT,
         ],
-        Verb::CheckBtor => &[
-            MODEL_FILE,
-            QUIET,
-            WITNESS_FILE,
-            NAMES,
-            ASKED_BAD,
-            JSON,
-            JUDGED_FIT,
-        ],
-        Verb::Show => &[MODEL_FILE, QUIET, OUTPUT],
+        Verb::CheckBtor => &[MODEL_FILE, QUIET, WITNESS_FILE, NAMES, ASKED_BAD, JSON, FIT],
+        Verb::Show => &[MODEL_FILE, QUIET, OUTPUT, FIT],
         Verb::Cost => &[MODEL_FILE, QUIET, FIT],
         Verb::Fit => &[MODEL_FILE, QUIET, OUTPUT],
         Verb::Unfit => &[MODEL_FILE, QUIET, WITNESS_FILE, OUTPUT, NAMES, BACK],

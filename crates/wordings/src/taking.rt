@@ -5,7 +5,7 @@ ghost use Rattle.base.specs.Decimals.{number_of};
 ghost use Rattle.std.specs.List.{list_all, list_any};
 ghost use Rattle.std.specs.Option.{unwrap_or};
 ghost use Rattle.wordings.specs.declared.table.Kind.{Kind};
-ghost use Rattle.wordings.specs.Orders.{Takes, fits, has_telling, is_named};
+ghost use Rattle.wordings.specs.Orders.{Takes, fits, is_named};
 ghost use Rattle.wordings.specs.Parts.{a_file};
 ghost use Rattle.wordings.specs.Table.{words_of};
 ghost use Rattle.wordings.specs.Values.{said};
@@ -32,13 +32,6 @@ fn is_number(text: &str) -> bool
     }
 }
 
-/// Whether there is a part that a flag alone goes with none of.
-fn has_telling(parts: &[Part<'_>]) -> bool
-    ensures { result ≡ has_telling (map said parts.now) }
-{
-    has("names", parts) || (has("bad", parts) || has("json", parts))
-}
-
 /// Whether one of some parts is a word of this kind and name, with a value as it takes it, and with the flag that it goes with.
 fn fits(parts: &[Part<'_>], kind: Kind, name: &str, part: Part<'_>) -> bool
     ensures { result ≡ fits (map said parts.now) kind name.now (said part.entry) }
@@ -46,7 +39,7 @@ fn fits(parts: &[Part<'_>], kind: Kind, name: &str, part: Part<'_>) -> bool
     match (kind, part) {
         (Kind::File, Part::File(_)) => true,
         (Kind::Flag, Part::Flag(flag)) => flag == name,
-        (Kind::FlagAlone, Part::Flag(flag)) => flag == name && !has_telling(parts),
+        (Kind::FlagWithoutNames, Part::Flag(flag)) => flag == name && !has("names", parts),
         (Kind::FlagOnModel, Part::Flag(flag)) => flag == name && !has("aiger", parts),
         (Kind::FlagWithCircuit, Part::Flag(flag)) => flag == name && has("circuit", parts),
         (Kind::FlagWithEngine, Part::Flag(flag)) => flag == name && has("engine", parts),

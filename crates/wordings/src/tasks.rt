@@ -154,6 +154,7 @@ pub(crate) fn task_of(verb: Verb, parts: &[Part<'_>]) -> Option<Task>
         Verb::Lower => Some(lowers(parts)),
         Verb::CheckBtor if has("fit", parts) => Some(Task::Model(ModelTask::CheckFitted)),
         Verb::CheckBtor => Some(Task::Model(ModelTask::CheckBtor)),
+        Verb::Show if has("fit", parts) => Some(Task::Model(ModelTask::ShowWhole)),
         Verb::Show => Some(Task::Model(ModelTask::Show)),
         Verb::Cost if has("fit", parts) => Some(Task::Model(ModelTask::CostFitted)),
         Verb::Cost => Some(Task::Model(ModelTask::Cost)),

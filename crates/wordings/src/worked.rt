@@ -34,14 +34,17 @@ pub fn worked_check_btor()
         → Says (codes "check-btor" ∷ codes "m" ∷ codes "w" ∷ codes "--bad=b" ∷ codes "--json" ∷ []) (request.One (record { task = task.Model model.CheckBtor; named = false; as_json = true; asked = Some asked; form = form.Ascii; first = first; second = Some second; third = None; output = None; tells_progress = true })) }
     ensures fitted { (first second : Bor (List ℕ)) → first.now ≡ codes "m" → second.now ≡ codes "w"
         → Says (codes "check-btor" ∷ codes "m" ∷ codes "w" ∷ codes "--fit" ∷ []) (request.One (record { task = task.Model model.CheckFitted; named = false; as_json = false; asked = None; form = form.Ascii; first = first; second = Some second; third = None; output = None; tells_progress = true })) }
+    ensures fitted_json { (first second : Bor (List ℕ)) → first.now ≡ codes "m" → second.now ≡ codes "w"
+        → Says (codes "check-btor" ∷ codes "--fit" ∷ codes "--json" ∷ codes "m" ∷ codes "w" ∷ []) (request.One (record { task = task.Model model.CheckFitted; named = false; as_json = true; asked = None; form = form.Ascii; first = first; second = Some second; third = None; output = None; tells_progress = true })) }
     ensures none { (o : Order) → ¬ Says (codes "check-btor" ∷ codes "-" ∷ codes "-" ∷ []) (request.One o) }
-    ensures alone { (o : Order) → ¬ Says (codes "check-btor" ∷ codes "--fit" ∷ codes "--json" ∷ codes "m" ∷ codes "w" ∷ []) (request.One o) }
 {}
 
 /// Worked rows, with no code: words that say `show`, and words that say nothing.
 pub fn worked_show()
     ensures says { (first : Bor (List ℕ)) → first.now ≡ codes "m"
         → Says (codes "show" ∷ codes "m" ∷ []) (request.One (record { task = task.Model model.Show; named = false; as_json = false; asked = None; form = form.Ascii; first = first; second = None; third = None; output = None; tells_progress = true })) }
+    ensures whole { (first : Bor (List ℕ)) → first.now ≡ codes "m"
+        → Says (codes "show" ∷ codes "--fit" ∷ codes "m" ∷ []) (request.One (record { task = task.Model model.ShowWhole; named = false; as_json = false; asked = None; form = form.Ascii; first = first; second = None; third = None; output = None; tells_progress = true })) }
     ensures none { (o : Order) → ¬ Says (codes "show" ∷ codes "--binary" ∷ codes "m" ∷ []) (request.One o) }
 {}
 

@@ -47,6 +47,15 @@ returns-in-Show-clause-done g c = λ third.
 pub returns-in-Show-clause-ends : goal.returns-in-Show-clause-ends
 returns-in-Show-clause-ends g c = ends_as as_is (unfailed refl) as_was idle c.show.ensures.ends
 
+pub returns-in-ShowWhole-clause-done : goal.returns-in-ShowWhole-clause-done
+unfolding Answers
+returns-in-ShowWhole-clause-done g c = λ third.
+    let is : c.args.task ≡ model.ShowWhole = search rules in
+    rw is (done_so c.show_whole.result _ c.show_whole.ensures.done c.show_whole.ensures.answer (λ did. did))
+
+pub returns-in-ShowWhole-clause-ends : goal.returns-in-ShowWhole-clause-ends
+returns-in-ShowWhole-clause-ends g c = ends_as as_is (unfailed refl) as_was idle c.show_whole.ensures.ends
+
 pub returns-in-Cost-clause-done : goal.returns-in-Cost-clause-done
 unfolding Answers
 returns-in-Cost-clause-done g c = λ third.
@@ -108,13 +117,19 @@ pub returns-in-CheckFitted-clause-done : goal.returns-in-CheckFitted-clause-done
 unfolding Answers
 returns-in-CheckFitted-clause-done g c = λ third.
     let is : c.args.task ≡ model.CheckFitted = search rules in
-    rw is c.check_fitted.ensures.done
+    rw is (c.judge_on_fitted.ensures.done third)
 
 pub returns-in-CheckFitted-clause-refused : goal.returns-in-CheckFitted-clause-refused
 unfolding RefusesTask
 returns-in-CheckFitted-clause-refused g c =
     let is : c.args.task ≡ model.CheckFitted = search rules in
-    rw is c.check_fitted.ensures.refused
+    rw is c.judge_on_fitted.ensures.refused
+
+pub returns-in-CheckFitted-clause-quiet : goal.returns-in-CheckFitted-clause-quiet
+unfolding is_quiet
+returns-in-CheckFitted-clause-quiet g c = λ quiet.
+    let is : c.args.task ≡ model.CheckFitted = search rules in
+    c.judge_on_fitted.ensures.quiet (not_named c.args.order.now.named (rw is at quiet))
 
 pub returns-in-Unfit-clause-done : goal.returns-in-Unfit-clause-done
 unfolding Answers
@@ -139,9 +154,6 @@ unfolding RefusesTask
 returns-in-Spread-clause-refused g c =
     let is : c.args.task ≡ model.Spread = search rules in
     rw is c.spread_witness.ensures.refused
-
-pub returns-in-CheckFitted-clause-ends : goal.returns-in-CheckFitted-clause-ends
-returns-in-CheckFitted-clause-ends g c = ends_as as_is as_is as_was idle c.check_fitted.ensures.ends
 
 pub returns-in-LowerFitted-clause-done : goal.returns-in-LowerFitted-clause-done
 unfolding Answers

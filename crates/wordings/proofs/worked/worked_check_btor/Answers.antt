@@ -38,5 +38,18 @@ returns-clause-fitted c = λ first second is_first is_second. record {
   progress = refl;
 }
 
-pub returns-clause-alone : goal.returns-clause-alone
-returns-clause-alone c = λ o s. let bad : false ≡ true = s.takes.known in absurd cc
+pub returns-clause-fitted_json : goal.returns-clause-fitted_json
+returns-clause-fitted_json c = λ first second is_first is_second. record {
+  takes = record { known = refl; once = refl; count = refl; one_form = refl };
+  task = refl;
+  named = refl;
+  as_json = refl;
+  asked = refl;
+  form = refl;
+  first = ap (λ name. Some name) (sym is_first);
+  second = ap (λ name. Some name) is_second;
+  third = refl;
+  input = refl;
+  output = refl;
+  progress = refl;
+}

@@ -19,3 +19,19 @@ returns-clause-says c = λ first is_first. record {
 
 pub returns-clause-none : goal.returns-clause-none
 returns-clause-none c = λ o s. let bad : false ≡ true = s.takes.known in absurd cc
+
+pub returns-clause-whole : goal.returns-clause-whole
+returns-clause-whole c = λ first is_first. record {
+  takes = record { known = refl; once = refl; count = refl; one_form = refl };
+  task = refl;
+  named = refl;
+  as_json = refl;
+  asked = refl;
+  form = refl;
+  first = ap (λ name. Some name) (sym is_first);
+  second = refl;
+  third = refl;
+  input = refl;
+  output = refl;
+  progress = refl;
+}
