@@ -153,7 +153,7 @@ def is_carried(word, clause):
     term = r"(?:[\w.]+|\[\]|\((?:[^()]|\([^()]*\))*\))"
     over = r"%s(?: %s)?" % (term, term)
     made = re.compile(r"\(λ (\w+)\. %s %s \1 \[\]\)|\b%s %s result \[\]" % (word, over, word, over))
-    premise = re.compile(r"\b%s %s self(?:\.(?:old|now|entry))? %s →" % (word, over, term))
+    premise = re.compile(r"\b%s %s (?:self|judge)(?:\.(?:old|now|entry))? %s →" % (word, over, term))
     kept = re.compile(r"\b%s %s self\.new %s" % (word, over, term))
     given = re.compile(r"λ \w+ \w+ (\w+) (\w+)\. %s %s \1 \2(?=$| \})" % (word, over))
     rest = given.sub("", made.sub("", clause))
