@@ -12,7 +12,7 @@ _hwtool() {
     case ${COMP_WORDS[1]} in
         lower) words='--quiet --output --ascii --binary --engine --bad --fit --help' ;;
         check-btor) words='--quiet --names --bad --json --fit --help' ;;
-        show) words='--quiet --output --help' ;;
+        show) words='--quiet --output --fit --help' ;;
         cost) words='--quiet --fit --help' ;;
         fit) words='--quiet --output --help' ;;
         unfit) words='--quiet --output --names --back --help' ;;

@@ -29,7 +29,7 @@ extern "C" {
 #endif
 
 /* The version of the library that this header goes with. */
-#define HWTOOL_VERSION "0.14.0"
+#define HWTOOL_VERSION "0.15.0"
 
 /* The statuses. */
 enum {
@@ -92,6 +92,12 @@ uint32_t hwtool_check_aig(const uint8_t *circuit, size_t circuit_length, const u
 uint32_t hwtool_check_btor_claims(const uint8_t *model, size_t model_length, bool chosen, size_t bad, const uint8_t *witness,
                                   size_t witness_length, struct hwtool_verdict *verdict, struct hwtool_claim *claims,
                                   size_t claims_length, size_t *needed, struct hwtool_refusal *refusal);
+
+/* The same of a BTOR2 model that hwtool_fit takes. MODEL_REFUSED where there is no such bad property, or hwtool_fit does not take the
+ * model. What hwtool_unfit writes is such a witness. */
+uint32_t hwtool_check_btor_fit_claims(const uint8_t *model, size_t model_length, bool chosen, size_t bad, const uint8_t *witness,
+                                      size_t witness_length, struct hwtool_verdict *verdict, struct hwtool_claim *claims,
+                                      size_t claims_length, size_t *needed, struct hwtool_refusal *refusal);
 
 /* The same of an AIGER circuit of either form. MODEL_REFUSED where there is no such bad property, or the circuit has outputs and no
  * bad property. What hwtool_restore writes is such a witness. */
