@@ -30,6 +30,9 @@ Text = Union[bytes, bytearray, memoryview, str, "os.PathLike[str]", "os.PathLike
 # The calls that judge a witness of each kind of text.
 _JUDGES = {"model": "hwtool_check_btor_claims", "fitted": "hwtool_check_btor_fit_claims", "circuit": "hwtool_check_aig_claims"}
 
+# The refusals of justice and of fairness by the call that judges over the whole language. A model that needs no fitting may have them.
+_LIVENESS = (220, 221)
+
 # The refusal of an obligation that is too big, which is told of the invariant as a whole.
 _TOO_MANY_CUBES = 196
 
@@ -178,7 +181,17 @@ def check_btor_fit(model: Text, witness: Text, *, bad: Optional[SupportsIndex] =
 
     Raises Refused where the model is none that `fit` takes, or has no bad property at the position `bad`.
     """
-    verdict, claims = _judged("fitted", _Given(model), _Given(witness).bytes, bad)
+    first, second = _Given(model), _Given(witness).bytes
+    try:
+        verdict, claims = _judged("fitted", first, second, bad)
+    except Refused as refused:
+        if refused.number not in _LIVENESS:
+            raise
+        try:
+            verdict, claims = _judged("model", first, second, bad)
+        except Refused:
+            # it has to be fitted, and is refused as it was
+            raise refused from None
     return _verdict(verdict, False, claims)
 
 
