@@ -93,8 +93,8 @@ uint32_t hwtool_check_btor_claims(const uint8_t *model, size_t model_length, boo
                                   size_t witness_length, struct hwtool_verdict *verdict, struct hwtool_claim *claims,
                                   size_t claims_length, size_t *needed, struct hwtool_refusal *refusal);
 
-/* The same of a BTOR2 model that hwtool_fit takes. MODEL_REFUSED where there is no such bad property, or hwtool_fit does not take the
- * model. What hwtool_unfit writes is such a witness. */
+/* The same of a BTOR2 model that hwtool_fit takes, without justice and fairness. MODEL_REFUSED where there is no such bad property, it
+ * has justice or fairness, or hwtool_fit does not take it. What hwtool_unfit writes is such a witness. */
 uint32_t hwtool_check_btor_fit_claims(const uint8_t *model, size_t model_length, bool chosen, size_t bad, const uint8_t *witness,
                                       size_t witness_length, struct hwtool_verdict *verdict, struct hwtool_claim *claims,
                                       size_t claims_length, size_t *needed, struct hwtool_refusal *refusal);
