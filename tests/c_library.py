@@ -127,14 +127,11 @@ def called(call, given, verdict, unit, circuit, file, invariant=None, bad=None):
 
 def checked(plain, with_claims, first, choice, second, circuit, file, by_name):
     """What the library answers in place of the program of a witness, with its claims by name. Where no bad property is chosen, both
-    calls say the same, but of justice and fairness in a model that needs no fitting, which the plain call alone takes."""
+    calls say the same."""
     status, out, told = called(with_claims, (*first, *choice, *second), True, CLAIM, circuit, file)
     refused = told if status == 2 else b""
     if not choice[0].value:
-        plainly = called(plain, (*first, *second), True, 0, circuit, file)
-        if refused.endswith((b"220 Justice\n", b"221 Fair\n")):
-            return plainly
-        assert plainly == (status, out, refused), "two calls differ"
+        assert called(plain, (*first, *second), True, 0, circuit, file) == (status, out, refused), "two calls differ"
     return status, out, told if by_name else refused
 
 
@@ -149,7 +146,7 @@ def cost(first, file):
 # The flags that commands have in rows that the library has a call for, and how many files.
 FLAGS = {
     "check-btor": (("--names", "--fit"), 2), "check-aig": (("--names",), 2), "lower": (("--ascii", "--binary"), 1),
-    "aig-convert": (("--ascii", "--binary"), 1), "lift": (("--engine", "--abc", "--names"), 2), "restore": (("--abc",), 2),
+    "aig-convert": (("--ascii", "--binary"), 1), "lift": (("--engine", "--abc", "--names", "--fit"), 2), "restore": (("--abc",), 2),
     "wave": (("--all",), 2), "cost": ((), 1), "fit": ((), 1), "unfit": (("--names", "--back"), 2),
     "obligation": (("--aiger", "--circuit", "--engine"), 2), "check-proof": (("--aiger", "--circuit", "--engine", "--lrat"), 3),
 }  # fmt: skip
@@ -173,7 +170,7 @@ def asked(words):
         return None
     bad = None if bad is None else int(bad)
     # what is printed by name of a witness of the circuit itself has no call
-    if {"--ascii", "--binary"}.issubset(flags) or (command == "lift" and flags and "--engine" not in flags):
+    if {"--ascii", "--binary"}.issubset(flags) or (command == "lift" and flags and not {"--engine", "--fit"}.intersection(flags)):
         return None
     return command, flags, bad, names
 
@@ -205,9 +202,13 @@ def answer(command, flags, bad, names, texts):
     if command == "restore":
         return called(library.hwtool_restore, (*first, *choice, *second), True, 1, circuit, file)
     if command == "lift" and "--abc" in flags:
-        return called(library.hwtool_lift_engine_abc, (*first, position, by_name, *second), True, 1, circuit, file)
+        call = library.hwtool_lift_engine_abc_fit if "--fit" in flags else library.hwtool_lift_engine_abc
+        return called(call, (*first, position, by_name, *second), True, 1, circuit, file)
     if command == "lift" and "--engine" in flags:
-        return called(library.hwtool_lift_engine, (*first, *choice, by_name, *second), True, 1, circuit, file)
+        call = library.hwtool_lift_engine_fit if "--fit" in flags else library.hwtool_lift_engine
+        return called(call, (*first, *choice, by_name, *second), True, 1, circuit, file)
+    if command == "lift" and "--fit" in flags:
+        return called(library.hwtool_lift_fit, (*first, by_name, *second), True, 1, circuit, file)
     if command == "lift":
         return called(library.hwtool_lift, (*first, *second), True, 1, circuit, file)
     if command == "wave":

@@ -6,8 +6,8 @@
 PROGRAM is crates/hwtool/out/hwtool where none is given. Each model has arrays, operands with a minus, inits by any line, before or behind
 their states, and states with an init and no next, at widths around 64 and above. An array is a list of cells here. The model is fitted, and
 both are evaluated, frame by frame, from the same first words and inputs: each bad property, constraint and output has to be the same. A model
-of which a first word depends on itself has to be refused by 224. Of one in eight the fitted model is lowered, and a witness of its frames is
-judged by `check-btor`, and by `check-btor --fit` as what `unfit` writes of it. A witness of the model itself, which tells cells of arrays, is judged by `check-btor --fit`, one of which a state begins
+of which a first word depends on itself has to be refused by 224. Of one in eight the fitted model is lowered, what
+may be found over its circuit and its engine forms is lifted with --fit beside `lift` and `unfit`, and a witness of its frames is judged by `check-btor`, and by `check-btor --fit` as what `unfit` writes of it. A witness of the model itself, which tells cells of arrays, is judged by `check-btor --fit`, one of which a state begins
 otherwise too, and by `check-btor` as what `unfit --back` writes. Spoilt texts have to be refused, or to be models that are fitted right. The status is 0 where nothing was wrong, else 1.
 """
 import argparse
@@ -374,6 +374,42 @@ def compare_shown(program, text, folder, fitted):
         raise Wrong(f"show --fit writes {shown.stdout}{shown.stderr}")
 
 
+def header(program, words, path):
+    """The numbers of inputs, latches and bad properties of a circuit that is lowered by these words."""
+    done = subprocess.run([program, "lower", "--ascii", *words, path], capture_output=True, text=True)
+    counts = [int(it) for it in done.stdout.split("\n", 1)[0].split()[2:]] if done.returncode == 0 else []
+    return (counts[0], counts[1], counts[4]) if len(counts) > 4 else None
+
+
+def found_text(by, inputs, latches, bads, flags):
+    """What an engine may have found over a circuit; of one in five a line is spoilt."""
+    frames = ["".join(by.choice("01") for _ in range(inputs)) for _ in range(by.randrange(1, 5))]
+    first = "".join(by.choice("0001") for _ in range(latches))
+    lines = ["0", *frames] if "--abc" in flags else ["1", f"b{by.randrange(bads)}", first, *frames, "."]
+    if by.random() < 0.2:
+        lines[by.randrange(len(lines))] = "x"
+    return "".join(f"{it}\n" for it in lines)
+
+
+def compare_lifted(program, folder, by):
+    """Lifts what is found over the fitted model's circuit with --fit, beside `lift` over the fitted model and `unfit` of what that writes."""
+    path, fitted, found = folder / "model.btor2", folder / "fitted.btor2", folder / "found"
+    for flags, words in (([], []), (["--engine"], ["--engine"]), (["--engine", "--abc", "--bad", "0"], ["--engine", "--bad", "0"])):
+        counts = header(program, words, fitted)
+        if counts is None:
+            return
+        found.write_text(found_text(by, *counts, flags))
+        for names in ([], ["--names"]):
+            held = subprocess.run([program, "lift", *flags, *names, fitted, found], capture_output=True, text=True)
+            (folder / "held").write_text(held.stdout)
+            unfitted = subprocess.run([program, "unfit", *names, path, folder / "held"], capture_output=True, text=True)
+            lifted = subprocess.run([program, "lift", "--fit", *flags, *names, path, found], capture_output=True, text=True)
+            line, own = held.stderr.split("\n")[0], lifted.stderr.split("\n")[0]
+            wanted = line if line.startswith(("malformed", "no claim")) else unfitted.stderr.split("\n")[0]
+            if (own, lifted.stdout, lifted.returncode) != (wanted, unfitted.stdout, held.returncode):
+                raise Wrong(f"lift --fit {flags} tells {lifted.stderr}, not {wanted}, or writes something else")
+
+
 def tried(program, text, by, folder, is_spoilt):
     """Fits one model, and compares; answers what was tried, or raises."""
     path, fitted = folder / "model.btor2", folder / "fitted.btor2"
@@ -420,6 +456,7 @@ def tried(program, text, by, folder, is_spoilt):
         again = subprocess.run([program, "lower", "--fit", path], capture_output=True, text=True)
         if lowered.returncode != 0 or lowered.stdout != again.stdout:
             raise Wrong(f"it is lowered otherwise by --fit: {again.stderr}")
+        compare_lifted(program, folder, by)
         said, holds = witness(narrow, chosen, inputs, free, told)
         if said is not None:
             (folder / "witness").write_text(said)

@@ -37,6 +37,7 @@ from ._calls import (
     lift,
     lift_engine,
     lift_engine_abc,
+    lift_fit,
     lower,
     obligation,
     obligation_aig,
@@ -50,7 +51,7 @@ from ._calls import (
 )
 from ._refusals import Case, Refused, explain, name
 
-__version__ = "0.15.0"
+__version__ = "0.16.0"
 
 # so is it told where nobody catches it
 Refused.__module__ = __name__
@@ -83,6 +84,7 @@ __all__ = [
     "lift",
     "lift_engine",
     "lift_engine_abc",
+    "lift_fit",
     "lower",
     "name",
     "obligation",

@@ -30,9 +30,6 @@ Text = Union[bytes, bytearray, memoryview, str, "os.PathLike[str]", "os.PathLike
 # The calls that judge a witness of each kind of text.
 _JUDGES = {"model": "hwtool_check_btor_claims", "fitted": "hwtool_check_btor_fit_claims", "circuit": "hwtool_check_aig_claims"}
 
-# The refusals of justice and of fairness by the call that judges over the whole language. A model that needs no fitting may have them.
-_LIVENESS = (220, 221)
-
 # The refusal of an obligation that is too big, which is told of the invariant as a whole.
 _TOO_MANY_CUBES = 196
 
@@ -182,16 +179,7 @@ def check_btor_fit(model: Text, witness: Text, *, bad: Optional[SupportsIndex] =
     Raises Refused where the model is none that `fit` takes, or has no bad property at the position `bad`.
     """
     first, second = _Given(model), _Given(witness).bytes
-    try:
-        verdict, claims = _judged("fitted", first, second, bad)
-    except Refused as refused:
-        if refused.number not in _LIVENESS:
-            raise
-        try:
-            verdict, claims = _judged("model", first, second, bad)
-        except Refused:
-            # it has to be fitted, and is refused as it was
-            raise refused from None
+    verdict, claims = _judged("fitted", first, second, bad)
     return _verdict(verdict, False, claims)
 
 
@@ -273,23 +261,34 @@ def lift(model: Text, witness: Text) -> Lifted:
     return Lifted(*_with_verdict("hwtool_lift", [*first.words, *second.words], "model", first, second, True))
 
 
-def lift_engine(model: Text, witness: Text, *, bad: Optional[SupportsIndex] = None, names: bool = False) -> Lifted:
+def lift_fit(model: Text, witness: Text, *, names: bool = False) -> Lifted:
+    """The same of a BTOR2 model that `fit` takes, with names behind the words or without: the witness is one of the circuit that
+    `lower` makes of what `fit` writes. The verdict is what is judged over the model. Raises Refused also as `fit` does."""
+    first, second = _Given(model), _Given(witness)
+    return Lifted(*_with_verdict("hwtool_lift_fit", [*first.words, bool(names), *second.words], "model", first, second, True))
+
+
+def lift_engine(
+    model: Text, witness: Text, *, bad: Optional[SupportsIndex] = None, names: bool = False, fit: bool = False
+) -> Lifted:
     """Judges a witness of the engine form of the circuit that `lower` makes of a BTOR2 model, as `restore` does, and lifts it to
     one of the model: with names behind its words, or without. The form is that with all bad properties, or with the one at
-    position `bad`, from 0, alone.
+    position `bad`, from 0, alone. With `fit` the model is one that `fit` takes, as for `lift_fit`.
 
-    Raises Refused where `lower` or `engine_form` does.
+    Raises Refused where `lower` or `engine_form` does, with `fit` also where `fit` does.
     """
     first, second = _Given(model), _Given(witness)
     given = [*first.words, *_choice(bad), bool(names), *second.words]
-    return Lifted(*_with_verdict("hwtool_lift_engine", given, "model", first, second, True))
+    call_name = "hwtool_lift_engine_fit" if fit else "hwtool_lift_engine"
+    return Lifted(*_with_verdict(call_name, given, "model", first, second, True))
 
 
-def lift_engine_abc(model: Text, bad: SupportsIndex, found: Text, *, names: bool = False) -> Lifted:
+def lift_engine_abc(model: Text, bad: SupportsIndex, found: Text, *, names: bool = False, fit: bool = False) -> Lifted:
     """The same of a counterexample as `restore_abc` takes it, with the bad property of the model at position `bad`, from 0."""
     first, second = _Given(model), _Given(found)
     given = [*first.words, _position(bad), bool(names), *second.words]
-    return Lifted(*_with_verdict("hwtool_lift_engine_abc", given, "model", first, second, True))
+    call_name = "hwtool_lift_engine_abc_fit" if fit else "hwtool_lift_engine_abc"
+    return Lifted(*_with_verdict(call_name, given, "model", first, second, True))
 
 
 def restore(circuit: Text, witness: Text, *, bad: Optional[SupportsIndex] = None) -> Restored:

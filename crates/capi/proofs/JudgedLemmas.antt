@@ -2,10 +2,13 @@
 use Rattle.std.proofs.Common.{arith, ◌≡◌, ◌<◌, ◌+◌, ◌^◌, ◌++◌, ◌∷◌, ◌∙◌, ℕ, zero, suc, Bool, true, false, List, [], length, drop, Option, Some, option_and_then, slice_get, decimal, append_assoc, refl, sym, ap, subst}
 use Rattle.base.specs.Decimals.{number_of}
 use Rattle.verbs.specs.Asked.{AsksFor, IsAskedBy}
-use Rattle.verbs.specs.Judging.{IsJudgedFor, IsJudgedOverFor, IsJudgedWholeFor}
+use Rattle.verbs.specs.Judging.{IsJudgedFittedFor, IsJudgedFor, IsJudgedOverFor, IsJudgedOverGiven, claim_over}
 use Rattle.verbs.specs.declared.judging.JudgedOverCircuit.{JudgedOverCircuit}
 use Rattle.verbs.specs.declared.judging.JudgedOverModel.{JudgedOverModel}
-use Rattle.verbs.specs.declared.judging_whole.JudgedOverWhole.{JudgedOverWhole}
+use Rattle.verbs.specs.declared.judging_whole.JudgedFitted.{JudgedFitted}
+use Rattle.verbs.specs.declared.given.GivenModel.{GivenModel}
+use Rattle.verbs.specs.declared.given.GivenModel.TheVariants as given_model
+use Rattle.verbs.specs.declared.outcomes.Outcome.{Outcome}
 use Rattle.capi.specs.Answers.{outcome_verdict_of}
 use Rattle.capi.specs.Buffers.{Fills, Needs}
 use Rattle.capi.specs.Flags.{choice_of, word_asked}
@@ -50,12 +53,24 @@ judges_for chosen bad model witness word answer told verdict list read small spe
     let is : IsJudgedFor (word_asked chosen bad) (Some model) (Some witness) answer = subst (λ (w : Option (List ℕ)). IsJudgedFor w (Some model) (Some witness) answer) spelled judged in
     record { answer = answer; is = is; for_choice = asked_position chosen bad _ _ is.claim read small is.asked; told = same ∙ tells; listed = listed ∙ ap (λ (v : Verdict). told_claims v answer.firsts) (sym same) }
 
-pub judges_whole_for : (chosen : Bool) (bad : ℕ) (model witness : List ℕ) (word : Option (List ℕ)) (answer : JudgedOverWhole) (told verdict : Verdict) (list : List Claim)
-    → ReadsDecimals → bad < 2 ^ 64 → word ≡ word_asked chosen bad → IsJudgedWholeFor word (Some model) (Some witness) answer → told ≡ outcome_verdict_of answer.outcome → verdict ≡ told → list ≡ told_claims told answer.firsts
+-- it is so of what is asked for over a model
+choice_over : (chosen : Bool) (bad : ℕ) (known witness : Option (List ℕ)) (m : GivenModel) (told : Outcome) (firsts : List (Option ℕ)) → ReadsDecimals → bad < 2 ^ 64
+    → (is : IsJudgedOverGiven (word_asked chosen bad) known witness m told firsts) → claim_over (word_asked chosen bad) known witness m told firsts is ≡ choice_of chosen bad
+choice_over chosen bad known witness (given_model.Profile items) told firsts read small is = asked_position chosen bad _ _ is.claim read small is.asked
+choice_over chosen bad known witness (given_model.Whole full) told firsts read small is = asked_position chosen bad _ _ is.claim read small is.asked
+
+pub judges_whole_for : (chosen : Bool) (bad : ℕ) (model witness : List ℕ) (word : Option (List ℕ)) (answer : JudgedFitted) (told verdict : Verdict) (list : List Claim)
+    → ReadsDecimals → bad < 2 ^ 64 → word ≡ word_asked chosen bad → IsJudgedFittedFor word (Some model) (Some witness) answer → told ≡ outcome_verdict_of answer.outcome → verdict ≡ told → list ≡ told_claims told answer.firsts
     → CallJudgesWholeFor chosen bad model witness verdict list
 judges_whole_for chosen bad model witness word answer told verdict list read small spelled judged tells same listed =
-    let is : IsJudgedWholeFor (word_asked chosen bad) (Some model) (Some witness) answer = subst (λ (w : Option (List ℕ)). IsJudgedWholeFor w (Some model) (Some witness) answer) spelled judged in
-    record { answer = answer; is = is; for_choice = asked_position chosen bad _ _ is.claim read small is.asked; told = same ∙ tells; listed = listed ∙ ap (λ (v : Verdict). told_claims v answer.firsts) (sym same) }
+    let is : IsJudgedFittedFor (word_asked chosen bad) (Some model) (Some witness) answer = subst (λ (w : Option (List ℕ)). IsJudgedFittedFor w (Some model) (Some witness) answer) spelled judged in
+    record {
+      answer = answer;
+      is = is;
+      for_choice = choice_over chosen bad (Some model) (Some witness) answer.model answer.outcome answer.firsts read small is;
+      told = same ∙ tells;
+      listed = listed ∙ ap (λ (v : Verdict). told_claims v answer.firsts) (sym same);
+    }
 
 pub judges_over_for : (chosen : Bool) (bad : ℕ) (circuit witness : List ℕ) (word : Option (List ℕ)) (answer : JudgedOverCircuit) (told verdict : Verdict) (list : List Claim)
     → ReadsDecimals → bad < 2 ^ 64 → word ≡ word_asked chosen bad → IsJudgedOverFor word (Some circuit) (Some witness) answer → told ≡ outcome_verdict_of answer.outcome → verdict ≡ told → list ≡ told_claims told answer.firsts

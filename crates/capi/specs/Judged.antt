@@ -1,9 +1,9 @@
 -- What the exported calls that judge witnesses answer, said of the bytes that they are given.
 use Rattle.std.specs.Prelude.{◌≡◌, ℕ, suc, Bool, ◌==◌, List, [], ◌∷◌, ◌++◌, Option, None, Some, if◌then◌else◌}
-use Rattle.verbs.specs.Judging.{IsJudged, IsJudgedFor, IsJudgedOver, IsJudgedOverFor, IsJudgedWholeFor}
+use Rattle.verbs.specs.Judging.{IsJudged, IsJudgedFor, IsJudgedFittedFor, IsJudgedOver, IsJudgedOverFor, claim_over}
 use Rattle.verbs.specs.declared.judging.JudgedOverCircuit.{JudgedOverCircuit}
 use Rattle.verbs.specs.declared.judging.JudgedOverModel.{JudgedOverModel}
-use Rattle.verbs.specs.declared.judging_whole.JudgedOverWhole.{JudgedOverWhole}
+use Rattle.verbs.specs.declared.judging_whole.JudgedFitted.{JudgedFitted}
 use Rattle.witness.specs.declared.judgement.Judgement.{Judgement}
 use Rattle.capi.specs.Answers.{outcome_verdict_of, verdict_of}
 use Rattle.capi.specs.Flags.{choice_of, word_asked}
@@ -48,9 +48,9 @@ pub record CallJudgesFor (chosen : Bool) (bad : ℕ) (model witness : List ℕ) 
 
 -- the same over the first text's model of the whole language
 pub record CallJudgesWholeFor (chosen : Bool) (bad : ℕ) (model witness : List ℕ) (verdict : Verdict) (claims : List Claim) : Type 0 where
-  pub answer : JudgedOverWhole
-  pub is : IsJudgedWholeFor (word_asked chosen bad) (Some model) (Some witness) answer
-  pub for_choice : is.claim ≡ choice_of chosen bad
+  pub answer : JudgedFitted
+  pub is : IsJudgedFittedFor (word_asked chosen bad) (Some model) (Some witness) answer
+  pub for_choice : claim_over (word_asked chosen bad) (Some model) (Some witness) answer.model answer.outcome answer.firsts is ≡ choice_of chosen bad
   pub told : verdict ≡ outcome_verdict_of answer.outcome
   pub listed : claims ≡ told_claims verdict answer.firsts
 

@@ -10,6 +10,7 @@ mod fitted;
 mod flags;
 mod judging;
 mod lifting;
+mod lifting_fitted;
 mod lowering;
 mod names;
 mod restoring;

@@ -72,7 +72,7 @@ struct HelpLine {
 }
 
 /// What help says of words; of those of a name the first that is of the command.
-static HELPS: [HelpLine; 43] = [
+static HELPS: [HelpLine; 44] = [
     HelpLine {
         name: "MODEL",
         verbs: &[],
@@ -202,6 +202,11 @@ static HELPS: [HelpLine; 43] = [
         name: "fit",
         verbs: &[Verb::Show],
         text: "Take a model of the whole language, with words of any width and arrays",
+    },
+    HelpLine {
+        name: "fit",
+        verbs: &[Verb::Lift],
+        text: "Take what fit takes, a model of the whole language, which is fitted first; the witness that is written is one of it",
     },
     HelpLine {
         name: "fit",

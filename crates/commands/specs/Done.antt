@@ -12,9 +12,10 @@ use Rattle.subcommands.specs.Asked.{ChecksCircuit, ChecksFitted, ChecksModel}
 use Rattle.subcommands.specs.Certificates.{CertifiesWith, WritesOwed}
 use Rattle.subcommands.specs.Done.{Compares, Dumps, Judged, ShowsModel, ShowsWhole, TellsCost, TellsCostFitted, Tidies}
 use Rattle.subcommands.specs.Fitted.{Spreads, Unfits}
-use Rattle.subcommands.specs.Restoring.{Lifts, LiftsForm, LiftsFound, Restores, RestoresForm}
+use Rattle.subcommands.specs.Restoring.{Lifts, LiftsFitted, LiftsForm, LiftsFormFitted, LiftsFound, LiftsFoundFitted, Restores, RestoresForm}
 use Rattle.invocation.specs.declared.tasks.CertificateTask.TheVariants as certificate
 use Rattle.invocation.specs.declared.tasks.CircuitTask.TheVariants as circuit
+use Rattle.invocation.specs.declared.tasks.Language.TheVariants as language
 use Rattle.invocation.specs.declared.tasks.ModelTask.TheVariants as model
 use Rattle.invocation.specs.declared.tasks.Order.{Order}
 use Rattle.invocation.specs.declared.tasks.TextTask.TheVariants as text
@@ -55,15 +56,18 @@ Answers o (task.Circuit circuit.ConvertOutputs) answer.Done first second third b
 Answers o (task.Circuit (circuit.ConvertOutputsForEngines choice)) answer.Done first second third before now told told' = ConvertsOutputsForEngines first before now o.form choice
 Answers o (task.Text (text.TidyWitness pick)) answer.Done first second third before now told told' = Tidies pick first before now
 Answers o (task.Circuit circuit.CheckAig) a first second third before now told told' = ChecksCircuit o.named o.as_json (asked_of o) first second before now told told' a
-Answers o (task.Model model.Lift) a first second third before now told told' = Lifts o.named first second before now told told' a
+Answers o (task.Model (model.Lift language.Profile)) a first second third before now told told' = Lifts o.named first second before now told told' a
+Answers o (task.Model (model.Lift language.Whole)) a first second third before now told told' = LiftsFitted o.named first second before now told told' a
 Answers o (task.Model (model.Wave shown)) a first second third before now told told' = Judged (Dumps shown first second before now told told') a
 Answers o (task.Model model.CheckFitted) a first second third before now told told' = ChecksFitted o.named o.as_json (asked_of o) first second before now told told' a
 Answers o (task.Model model.Unfit) a first second third before now told told' = Unfits o.named first second before now told told' a
 Answers o (task.Model model.Spread) a first second third before now told told' = Spreads first second before now told told' a
 Answers o (task.Circuit (circuit.Restore choice)) a first second third before now told told' = Restores choice first second before now told told' a
 Answers o (task.Circuit (circuit.RestoreForm choice)) a first second third before now told told' = RestoresForm choice first second before now told told' a
-Answers o (task.Model (model.LiftFound choice)) a first second third before now told told' = LiftsFound o.named choice first second before now told told' a
-Answers o (task.Model (model.LiftForm choice)) a first second third before now told told' = LiftsForm o.named choice first second before now told told' a
+Answers o (task.Model (model.LiftFound language.Profile choice)) a first second third before now told told' = LiftsFound o.named choice first second before now told told' a
+Answers o (task.Model (model.LiftFound language.Whole choice)) a first second third before now told told' = LiftsFoundFitted o.named choice first second before now told told' a
+Answers o (task.Model (model.LiftForm language.Profile choice)) a first second third before now told told' = LiftsForm o.named choice first second before now told told' a
+Answers o (task.Model (model.LiftForm language.Whole choice)) a first second third before now told told' = LiftsFormFitted o.named choice first second before now told told' a
 Answers o (task.Text text.Vectors) a first second third before now told told' = Compares first before now a
 Answers o (task.Certificate (certificate.Obligation of)) answer.Done first second third before now told told' = WritesOwed of first second before now
 Answers o (task.Certificate (certificate.CheckProof of form)) a first second third before now told told' = CertifiesWith o.named o.as_json of form first second third before now told told' a
@@ -73,11 +77,11 @@ Answers o _ a first second third before now told told' = ⊥
 unfoldable pub has_one_file : Task → Bool
 has_one_file (task.Model model.CheckBtor) = false
 has_one_file (task.Circuit circuit.CheckAig) = false
-has_one_file (task.Model model.Lift) = false
+has_one_file (task.Model (model.Lift language)) = false
 has_one_file (task.Circuit (circuit.Restore choice)) = false
 has_one_file (task.Circuit (circuit.RestoreForm choice)) = false
-has_one_file (task.Model (model.LiftFound choice)) = false
-has_one_file (task.Model (model.LiftForm choice)) = false
+has_one_file (task.Model (model.LiftFound language choice)) = false
+has_one_file (task.Model (model.LiftForm language choice)) = false
 has_one_file (task.Model (model.Wave shown)) = false
 has_one_file (task.Model model.CheckFitted) = false
 has_one_file (task.Model model.Unfit) = false
@@ -92,11 +96,11 @@ has_three_files _ = false
 
 -- a command that is done tells nothing on standard error
 unfoldable pub is_quiet : Bool → Task → Bool
-is_quiet named (task.Model model.Lift) = false
+is_quiet named (task.Model (model.Lift language)) = false
 is_quiet named (task.Circuit (circuit.Restore choice)) = false
 is_quiet named (task.Circuit (circuit.RestoreForm choice)) = false
-is_quiet named (task.Model (model.LiftFound choice)) = false
-is_quiet named (task.Model (model.LiftForm choice)) = false
+is_quiet named (task.Model (model.LiftFound language choice)) = false
+is_quiet named (task.Model (model.LiftForm language choice)) = false
 is_quiet named (task.Model (model.Wave shown)) = false
 is_quiet named (task.Model model.Unfit) = false
 is_quiet named (task.Model model.Spread) = false

@@ -3,6 +3,7 @@ use Rattle.std.specs.Prelude.{ℕ, List, Option}
 use Rattle.invocation.specs.declared.tasks.CertificateTask.TheVariants as certificate
 use Rattle.invocation.specs.declared.tasks.CircuitTask.TheVariants as circuit
 use Rattle.invocation.specs.declared.tasks.Given.TheVariants as given
+use Rattle.invocation.specs.declared.tasks.Language.TheVariants as language
 use Rattle.invocation.specs.declared.tasks.ModelTask.TheVariants as model
 use Rattle.invocation.specs.declared.tasks.Task.{Task}
 use Rattle.invocation.specs.declared.tasks.Task.TheVariants as task
@@ -31,11 +32,14 @@ RefusesTask (task.Circuit (circuit.ConvertForEngines choice)) asked known f = Is
 RefusesTask (task.Circuit circuit.ConvertOutputs) asked known f = IsNotWithOutputs known f
 RefusesTask (task.Circuit (circuit.ConvertOutputsForEngines choice)) asked known f = IsNotWithOutputsForEngines choice known f
 RefusesTask (task.Circuit circuit.CheckAig) asked known f = IsNotJudgedOverWith asked known f
-RefusesTask (task.Model model.Lift) asked known f = IsNotClaimable given.Model known f
+RefusesTask (task.Model (model.Lift language.Profile)) asked known f = IsNotClaimable given.Model known f
+RefusesTask (task.Model (model.Lift language.Whole)) asked known f = IsNotClaimable given.Fitted known f
 RefusesTask (task.Circuit (circuit.Restore choice)) asked known f = IsNotClaimed claimed.Found given.Circuit choice known f
 RefusesTask (task.Circuit (circuit.RestoreForm choice)) asked known f = IsNotForEngines given.Circuit choice known f
-RefusesTask (task.Model (model.LiftFound choice)) asked known f = IsNotClaimed claimed.Found given.Model choice known f
-RefusesTask (task.Model (model.LiftForm choice)) asked known f = IsNotForEngines given.Model choice known f
+RefusesTask (task.Model (model.LiftFound language.Profile choice)) asked known f = IsNotClaimed claimed.Found given.Model choice known f
+RefusesTask (task.Model (model.LiftFound language.Whole choice)) asked known f = IsNotClaimed claimed.Found given.Fitted choice known f
+RefusesTask (task.Model (model.LiftForm language.Profile choice)) asked known f = IsNotForEngines given.Model choice known f
+RefusesTask (task.Model (model.LiftForm language.Whole choice)) asked known f = IsNotForEngines given.Fitted choice known f
 RefusesTask (task.Model (model.Wave shown)) asked known f = IsNotJudged known f
 RefusesTask (task.Model model.CheckFitted) asked known f = IsNotFittedWith asked known f
 RefusesTask (task.Model model.Unfit) asked known f = IsNotFitted known f

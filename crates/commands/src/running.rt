@@ -16,14 +16,16 @@ ghost use Rattle.subcommands.specs.Objects.{refusal_written};
 
 use base::{Reason, Sink, Source};
 use blast::Watch;
-use invocation::{CertificateTask, CircuitTask, DEVICE, ModelTask, Order, Task, TextTask};
+use invocation::{
+    CertificateTask, CircuitTask, DEVICE, Language, ModelTask, Order, Task, TextTask,
+};
 use std::alloc::Global;
 use subcommands::{
     Answer, answered, check_circuit, check_circuit_with, check_fitted, check_fitted_with,
     check_model, check_model_with, check_proof, compare_vectors, dump_witness, lift_counterexample,
-    lift_form_witness, lift_witness, restore_counterexample, restore_witness, show, show_whole,
-    spread_witness, tell, tell_cost, tell_cost_fitted, tidy_witness, unfit_witness,
-    write_obligation, write_refusal,
+    lift_fitted_counterexample, lift_fitted_form_witness, lift_fitted_witness, lift_form_witness,
+    lift_witness, restore_counterexample, restore_witness, show, show_whole, spread_witness, tell,
+    tell_cost, tell_cost_fitted, tidy_witness, unfit_witness, write_obligation, write_refusal,
 };
 use verbs::{
     Device, Refusal, convert, convert_for_engines, convert_outputs, convert_outputs_for_engines,
@@ -306,12 +308,23 @@ fn obey_on_model<A: Source, B: Source, O: Sink, E: Sink, W: Watch>(
         ModelTask::ShowWhole => show_whole(alloc, first, out),
         ModelTask::Cost => tell_cost(alloc, first, out),
         ModelTask::CostFitted => tell_cost_fitted(alloc, first, out),
-        ModelTask::Lift => lift_witness(alloc, order.named, first, second, out, err, watch),
-        ModelTask::LiftFound(choice) => {
+        ModelTask::Lift(Language::Profile) => {
+            lift_witness(alloc, order.named, first, second, out, err, watch)
+        }
+        ModelTask::Lift(Language::Whole) => {
+            lift_fitted_witness(alloc, order.named, first, second, out, err, watch)
+        }
+        ModelTask::LiftFound(Language::Profile, choice) => {
             lift_counterexample(alloc, order.named, choice, first, second, out, err, watch)
         }
-        ModelTask::LiftForm(choice) => {
+        ModelTask::LiftFound(Language::Whole, choice) => {
+            lift_fitted_counterexample(alloc, order.named, choice, first, second, out, err, watch)
+        }
+        ModelTask::LiftForm(Language::Profile, choice) => {
             lift_form_witness(alloc, order.named, choice, first, second, out, err, watch)
+        }
+        ModelTask::LiftForm(Language::Whole, choice) => {
+            lift_fitted_form_witness(alloc, order.named, choice, first, second, out, err, watch)
         }
         ModelTask::Wave(shown) => dump_witness(alloc, order, shown, first, second, out, err),
         ModelTask::CheckFitted => judge_on_fitted(alloc, order, first, second, out, err),

@@ -2,4 +2,4 @@
 use Rattle.std.specs.Prelude.{ℕ, List, codes}
 
 abbrev pub version : List ℕ
-version = codes "0.15.0"
+version = codes "0.16.0"

@@ -8,6 +8,6 @@ mod tasks;
 pub use release::version;
 pub use statuses::{DEVICE, DONE, NOT_ACCEPTED, REFUSED, WORDS_REFUSED};
 pub use tasks::{
-    Certificate, CertificateTask, Certified, CircuitTask, Given, ListOrder, ModelTask, Order,
-    Request, STANDARD_INPUT, STANDARD_OUTPUT, Stop, Task, TextTask,
+    Certificate, CertificateTask, Certified, CircuitTask, Given, Language, ListOrder, ModelTask,
+    Order, Request, STANDARD_INPUT, STANDARD_OUTPUT, Stop, Task, TextTask,
 };

@@ -7,5 +7,5 @@ ghost use Rattle.invocation.specs.Version.{version};
 pub fn version() -> &'static str
     ensures { result.now ≡ version }
 {
-    "0.15.0"
+    "0.16.0"
 }

@@ -26,6 +26,15 @@ pub enum Given {
     Circuit,
 }
 
+/// Which models the first file of a command may be of.
+#[derive(Clone, Copy, PartialEq, Eq)]
+pub enum Language {
+    /// Those of the profile.
+    Profile,
+    /// Those of the whole language, which are fitted.
+    Whole,
+}
+
 /// What the second file of a command on certificates is.
 #[derive(Clone, Copy, PartialEq, Eq)]
 pub enum Certificate {
@@ -69,14 +78,14 @@ pub enum ModelTask {
     Cost,
     /// Fits it, where it is one of the whole language, and tells the same of that.
     CostFitted,
-    /// Lifts a witness of its circuit to one of the model.
-    Lift,
-    /// Lifts a counterexample in the form that ABC writes over the engine form of its circuit to a witness of the model; it
+    /// Lifts a witness of its circuit, or of the circuit of what it is fitted into, to one of the model.
+    Lift(Language),
+    /// Lifts a counterexample in the form that ABC writes over the engine form of that circuit to a witness of the model; it
     /// claims the bad property at a position of the circuit, or the only one.
-    LiftFound(Option<usize>),
-    /// Lifts a witness of the engine form of its circuit, with all bad properties or with the one at a position, to a witness
+    LiftFound(Language, Option<usize>),
+    /// Lifts a witness of the engine form of that circuit, with all bad properties or with the one at a position, to a witness
     /// of the model.
-    LiftForm(Option<usize>),
+    LiftForm(Language, Option<usize>),
     /// Judges a witness over it, and dumps its frames.
     Wave(Shown),
     /// Judges a witness over it, where it may be one of the whole language.

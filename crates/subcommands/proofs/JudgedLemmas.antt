@@ -4,10 +4,10 @@ use Rattle.std.specs.Io.KnownBytes.{Appends}
 use Rattle.witness.specs.declared.judgement.Judgement.{Judgement}
 use Rattle.verbs.specs.declared.judging.JudgedOverCircuit.{JudgedOverCircuit}
 use Rattle.verbs.specs.declared.judging.JudgedOverModel.{JudgedOverModel}
-use Rattle.verbs.specs.declared.judging_whole.JudgedOverWhole.{JudgedOverWhole}
+use Rattle.verbs.specs.declared.judging_whole.JudgedFitted.{JudgedFitted}
 use Rattle.verbs.specs.declared.refusals.Refusal.{Refusal}
-use Rattle.verbs.specs.Judging.{IsJudgedFor, IsJudgedOverFor, IsJudgedWholeFor}
-use Rattle.verbs.specs.Subjects.{model_told, whole_told}
+use Rattle.verbs.specs.Judging.{IsJudgedFor, IsJudgedFittedFor, IsJudgedOverFor}
+use Rattle.verbs.specs.Subjects.{given_told, model_told}
 use Rattle.subcommands.specs.declared.answers.Answer.{Answer}
 use Rattle.subcommands.specs.Asked.{IsJudgedFittedWith, IsJudgedOverWith, IsJudgedWith, IsSoOf, outcome_said, outcome_written}
 use Rattle.subcommands.specs.Done.{IsSo, Judged, judgement_line}
@@ -27,9 +27,9 @@ pub judged_with : (r : Result Answer Refusal) (named as_json : Bool) (word model
 judged_with (Ok a) named as_json word model witness before now told told' answer is line said so = record { answer = answer; is_judged = is; written = line; subject = said; so = so }
 judged_with (Err e) named as_json word model witness before now told told' answer is line said so = tt
 
-pub judged_fitted_with : (r : Result Answer Refusal) (named as_json : Bool) (word model witness before now told told' : Option (List ℕ)) (answer : JudgedOverWhole) → IsJudgedWholeFor word model witness answer
-    → OnOk r (Appends before now (outcome_written as_json (line_names (whole_told answer.model)) answer.firsts answer.outcome))
-    → OnOk r (Appends told told' (where_named named (outcome_said (line_judged (whole_told answer.model)) (bad_line_said (whole_told answer.model)) answer.firsts answer.outcome))) → IfOk r (λ a. IsSoOf a answer.outcome)
+pub judged_fitted_with : (r : Result Answer Refusal) (named as_json : Bool) (word model witness before now told told' : Option (List ℕ)) (answer : JudgedFitted) → IsJudgedFittedFor word model witness answer
+    → OnOk r (Appends before now (outcome_written as_json (line_names (given_told answer.model)) answer.firsts answer.outcome))
+    → OnOk r (Appends told told' (where_named named (outcome_said (line_judged (given_told answer.model)) (bad_line_said (given_told answer.model)) answer.firsts answer.outcome))) → IfOk r (λ a. IsSoOf a answer.outcome)
     → IfOk r (IsJudgedFittedWith named as_json word model witness before now told told')
 judged_fitted_with (Ok a) named as_json word model witness before now told told' answer is line said so = record { answer = answer; is_judged = is; written = line; subject = said; so = so }
 judged_fitted_with (Err e) named as_json word model witness before now told told' answer is line said so = tt

@@ -10,11 +10,14 @@ use Rattle.verbs.specs.declared.restoring.FoundRestored.{FoundRestored}
 use Rattle.verbs.specs.declared.restoring.Restored.{Restored}
 use Rattle.verbs.specs.Judging.{IsDumped}
 use Rattle.verbs.specs.Lifting.{IsFormLifted, IsFoundLifted, IsLifted}
+use Rattle.verbs.specs.LiftingFitted.{IsFormLiftedFitted, IsFoundLiftedFitted, IsLiftedFitted}
+use Rattle.verbs.specs.declared.lifting_fitted.FoundLiftedFitted.{FoundLiftedFitted}
+use Rattle.verbs.specs.declared.lifting_fitted.LiftedFitted.{LiftedFitted}
 use Rattle.verbs.specs.Restoring.{IsFormRestored, IsFoundRestored}
 use Rattle.subcommands.specs.declared.answers.Answer.{Answer}
 use Rattle.subcommands.specs.Assumed.{assumed_said}
 use Rattle.subcommands.specs.Done.{Dumps, IsSo, Judged, judgement_line}
-use Rattle.subcommands.specs.Restoring.{Lifts, LiftsForm, LiftsFound, Restores, RestoresForm, TellsLifted, TellsRestored, lifting_said}
+use Rattle.subcommands.specs.Restoring.{Lifts, LiftsFitted, LiftsForm, LiftsFormFitted, LiftsFound, LiftsFoundFitted, Restores, RestoresForm, TellsLifted, TellsRestored, lifting_fitted_said, lifting_said}
 
 pub restores : (r : Result Answer Refusal) (choice : Option ℕ) (circuit found before now told told' : Option (List ℕ)) (x : FoundRestored) → IsFoundRestored choice circuit found before now x → IfOk r (λ a. TellsRestored x.told a told told')
     → IfOk r (Restores choice circuit found before now told told')
@@ -41,6 +44,22 @@ pub lifts_form : (r : Result Answer Refusal) (named : Bool) (choice : Option ℕ
     → IfOk r (LiftsForm named choice model found before now told told')
 lifts_form (Ok a) named choice model found before now told told' x is line so = record { lifted = x; is_lifted = is; so = so; lines = line }
 lifts_form (Err e) named choice model found before now told told' x is line so = tt
+
+pub lifts_fitted : (r : Result Answer Refusal) (named : Bool) (model witness before now told told' : Option (List ℕ)) (x : LiftedFitted) → IsLiftedFitted named model witness before now x
+    → OnOk r (Appends told told' (judgement_line x.judgement ++ lifting_fitted_said named x.model x.firsts x.judgement)) → IfOk r (λ a. IsSo a x.judgement) → IfOk r (LiftsFitted named model witness before now told told')
+lifts_fitted (Ok a) named model witness before now told told' x is line so = record { lifted = x; is_lifted = is; so = so; lines = line }
+lifts_fitted (Err e) named model witness before now told told' x is line so = tt
+
+pub lifts_found_fitted : (r : Result Answer Refusal) (named : Bool) (choice : Option ℕ) (model found before now told told' : Option (List ℕ)) (x : FoundLiftedFitted) → IsFoundLiftedFitted named choice model found before now x
+    → IfOk r (λ a. TellsLifted (lifting_fitted_said named x.model) x.told a told told') → IfOk r (LiftsFoundFitted named choice model found before now told told')
+lifts_found_fitted (Ok a) named choice model found before now told told' x is tells = record { lifted = x; is_lifted = is; tells = tells }
+lifts_found_fitted (Err e) named choice model found before now told told' x is tells = tt
+
+pub lifts_form_fitted : (r : Result Answer Refusal) (named : Bool) (choice : Option ℕ) (model found before now told told' : Option (List ℕ)) (x : LiftedFitted) → IsFormLiftedFitted named choice model found before now x
+    → OnOk r (Appends told told' ((judgement_line x.judgement ++ lifting_fitted_said named x.model x.firsts x.judgement) ++ assumed_said choice (length x.circuit.bads))) → IfOk r (λ a. IsSo a x.judgement)
+    → IfOk r (LiftsFormFitted named choice model found before now told told')
+lifts_form_fitted (Ok a) named choice model found before now told told' x is line so = record { lifted = x; is_lifted = is; so = so; lines = line }
+lifts_form_fitted (Err e) named choice model found before now told told' x is line so = tt
 
 pub dumps : (r : Result Answer Refusal) (shown : Shown) (title : List ℕ) (model witness before now told told' : Option (List ℕ)) (j : Judgement) → IsDumped shown title model witness before now j
     → OnOk r (Appends told told' (judgement_line j)) → IfOk r (λ a. IsSo a j) → IfOk r (Judged (Dumps shown model witness before now told told'))

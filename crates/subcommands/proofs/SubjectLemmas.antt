@@ -1,5 +1,5 @@
 -- What is said of what a judgement is about.
-use Rattle.std.proofs.Common.{◌≡◌, ℕ, zero, suc, Bool, List, [], ◌∷◌, ◌++◌, ◌+◌, ◌<◌, drop, Option, Some, None, Result, Ok, Err, OnOk, length, append_assoc, option_and_then, slice_get, refl, sym, ap, subst, ◌∙◌, arith}
+use Rattle.std.proofs.Common.{◌≡◌, ℕ, zero, suc, List, [], ◌∷◌, ◌++◌, ◌+◌, ◌<◌, drop, Option, Some, None, Result, Ok, Err, OnOk, length, append_assoc, option_and_then, slice_get, refl, sym, ap, subst, ◌∙◌, arith}
 use Rattle.std.specs.Io.KnownBytes.{Appends}
 use Rattle.subcommands.specs.Subjects.{first_said, firsts_said}
 

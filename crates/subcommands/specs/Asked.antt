@@ -10,10 +10,10 @@ use Rattle.subcommands.specs.Fitted.{WritesJudgedFitted}
 use Rattle.subcommands.specs.Objects.{Names, circuit_names, line_names, outcome_object}
 use Rattle.subcommands.specs.Subjects.{bad_line_said, bad_name_said, line_judged, name_said, said_by_name, where_named}
 use Rattle.std.specs.Io.KnownBytes.{Appends}
-use Rattle.verbs.specs.Judging.{IsJudgedFor, IsJudgedOverFor, IsJudgedWholeFor}
-use Rattle.verbs.specs.Subjects.{model_told, whole_told}
+use Rattle.verbs.specs.Judging.{IsJudgedFittedFor, IsJudgedFor, IsJudgedOverFor}
+use Rattle.verbs.specs.Subjects.{given_told, model_told}
 use Rattle.verbs.specs.declared.judging.JudgedOverCircuit.{JudgedOverCircuit}
-use Rattle.verbs.specs.declared.judging_whole.JudgedOverWhole.{JudgedOverWhole}
+use Rattle.verbs.specs.declared.judging_whole.JudgedFitted.{JudgedFitted}
 use Rattle.verbs.specs.declared.judging.JudgedOverModel.{JudgedOverModel}
 
 -- ---- what is told
@@ -51,10 +51,10 @@ pub record IsJudgedWith (named as_json : Bool) (word : Option (List ℕ)) (model
 
 -- The same over a model of the whole language.
 pub record IsJudgedFittedWith (named as_json : Bool) (word : Option (List ℕ)) (model witness before now told told' : Option (List ℕ)) (a : Answer) : Type 0 where
-  pub answer : JudgedOverWhole
-  pub is_judged : IsJudgedWholeFor word model witness answer
-  pub written : Appends before now (outcome_written as_json (line_names (whole_told answer.model)) answer.firsts answer.outcome)
-  pub subject : Appends told told' (where_named named (outcome_said (line_judged (whole_told answer.model)) (bad_line_said (whole_told answer.model)) answer.firsts answer.outcome))
+  pub answer : JudgedFitted
+  pub is_judged : IsJudgedFittedFor word model witness answer
+  pub written : Appends before now (outcome_written as_json (line_names (given_told answer.model)) answer.firsts answer.outcome)
+  pub subject : Appends told told' (where_named named (outcome_said (line_judged (given_told answer.model)) (bad_line_said (given_told answer.model)) answer.firsts answer.outcome))
   pub so : IsSoOf a answer.outcome
 
 -- The same over a circuit.

@@ -4,19 +4,24 @@ use Rattle.std.specs.Io.KnownBytes.{Appends}
 use Rattle.restore.specs.Faults.{restore_why_name, restore_why_number}
 use Rattle.restore.specs.declared.fault.RestoreFault.{RestoreFault}
 use Rattle.witness.specs.declared.judgement.Judgement.{Judgement}
+use Rattle.full.specs.Lines.{FullLine}
 use Rattle.verbs.specs.Lifting.{IsFormLifted, IsFoundLifted, IsLifted}
+use Rattle.verbs.specs.LiftingFitted.{IsFormLiftedFitted, IsFoundLiftedFitted, IsLiftedFitted}
+use Rattle.verbs.specs.declared.lifting_fitted.FoundLiftedFitted.{FoundLiftedFitted}
+use Rattle.verbs.specs.declared.lifting_fitted.LiftedFitted.{LiftedFitted}
+use Rattle.verbs.specs.declared.subjects.Subject.{Subject}
 use Rattle.verbs.specs.Restoring.{IsFormRestored, IsFoundRestored}
 use Rattle.verbs.specs.declared.given.Lowered.{Lowered}
 use Rattle.verbs.specs.declared.lifting.FoundLifted.{FoundLifted}
 use Rattle.verbs.specs.declared.lifting.Lifted.{Lifted}
 use Rattle.verbs.specs.declared.restoring.FoundRestored.{FoundRestored}
 use Rattle.verbs.specs.declared.restoring.Restored.{Restored}
-use Rattle.verbs.specs.Subjects.{model_told}
+use Rattle.verbs.specs.Subjects.{model_told, whole_told}
 use Rattle.subcommands.specs.declared.answers.Answer.{Answer}
 use Rattle.subcommands.specs.declared.answers.Answer.TheVariants as answer
 use Rattle.subcommands.specs.Assumed.{assumed_said}
 use Rattle.subcommands.specs.Done.{IsSo, judgement_line}
-use Rattle.subcommands.specs.Subjects.{bad_line_said, lifted_said, said_by_name, where_named}
+use Rattle.subcommands.specs.Subjects.{bad_line_said, bad_said, lifted_said, line_judged, said_by_name, subject_said, where_named}
 
 -- the line of the first faulty line of a counterexample
 abbrev pub malformed_line : RestoreFault → List ℕ
@@ -48,6 +53,13 @@ pub record RestoresForm (choice : Option ℕ) (circuit found before now told tol
 abbrev pub lifting_said : Bool → Lowered → List (Option ℕ) → Judgement → List ℕ
 lifting_said named lowered firsts j = where_named named (said_by_name (lifted_said (model_told lowered.model) lowered.circuit) (bad_line_said (model_told lowered.model)) firsts j)
 
+-- the same of any subject, and of a model of the whole language
+abbrev pub lifting_said_of : Bool → Subject → List (Option ℕ) → Judgement → List ℕ
+lifting_said_of named subject firsts j = where_named named (said_by_name (subject_said subject) (bad_said subject) firsts j)
+
+abbrev pub lifting_fitted_said : Bool → List FullLine → List (Option ℕ) → Judgement → List ℕ
+lifting_fitted_said named full firsts j = where_named named (said_by_name (line_judged (whole_told full)) (bad_line_said (whole_told full)) firsts j)
+
 -- what was told of a counterexample, and whether it is accepted: the line of its judgement, and what is said behind it; or the line of its first faulty line
 abbrev pub TellsLifted : (List (Option ℕ) → Judgement → List ℕ) → Result (Judgement × List (Option ℕ)) RestoreFault → Answer → Option (List ℕ) → Option (List ℕ) → Type 0
 TellsLifted said (Ok lifted) a told told' = IsSo a lifted.0 × Appends told told' (judgement_line lifted.0 ++ said lifted.1 lifted.0)
@@ -72,3 +84,25 @@ pub record LiftsForm (named : Bool) (choice : Option ℕ) (model found before no
   pub is_lifted : IsFormLifted named choice model found before now lifted
   pub so : IsSo a lifted.judgement
   pub lines : Appends told told' ((judgement_line lifted.judgement ++ lifting_said named lifted.lowered lifted.firsts lifted.judgement) ++ assumed_said choice (length lifted.lowered.circuit.bads))
+
+-- ---- over a model of the whole language
+
+-- A witness of the circuit of the fitted model is lifted; and what was told is the line of what is judged of it over the model, and with names what that is about, and of an acceptance in which frames the claims are reached first.
+pub record LiftsFitted (named : Bool) (model witness before now told told' : Option (List ℕ)) (a : Answer) : Type 0 where
+  pub lifted : LiftedFitted
+  pub is_lifted : IsLiftedFitted named model witness before now lifted
+  pub so : IsSo a lifted.judgement
+  pub lines : Appends told told' (judgement_line lifted.judgement ++ lifting_fitted_said named lifted.model lifted.firsts lifted.judgement)
+
+-- The same of a counterexample over an engine form of that circuit.
+pub record LiftsFoundFitted (named : Bool) (choice : Option ℕ) (model found before now told told' : Option (List ℕ)) (a : Answer) : Type 0 where
+  pub lifted : FoundLiftedFitted
+  pub is_lifted : IsFoundLiftedFitted named choice model found before now lifted
+  pub tells : TellsLifted (lifting_fitted_said named lifted.model) lifted.told a told told'
+
+-- The same of a witness of an engine form; and it was told that the form is taken to be of all bad properties, where there are several and none is chosen.
+pub record LiftsFormFitted (named : Bool) (choice : Option ℕ) (model found before now told told' : Option (List ℕ)) (a : Answer) : Type 0 where
+  pub lifted : LiftedFitted
+  pub is_lifted : IsFormLiftedFitted named choice model found before now lifted
+  pub so : IsSo a lifted.judgement
+  pub lines : Appends told told' ((judgement_line lifted.judgement ++ lifting_fitted_said named lifted.model lifted.firsts lifted.judgement) ++ assumed_said choice (length lifted.circuit.bads))

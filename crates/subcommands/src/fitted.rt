@@ -13,7 +13,7 @@ use crate::judgements::{answer_told, tell_line, write_judgement};
 use base::{Sink, Source};
 use invocation::Order;
 use std::alloc::Global;
-use verbs::{Lines, Refusal, Subject, judge_fitted, judge_fitted_for, spread, unfit};
+use verbs::{Refusal, Subject, judge_fitted, judge_fitted_for, spread, unfit};
 
 /// Judges a witness over a model of the whole language, and writes the line of its judgement.
 pub fn check_fitted<A: Source, B: Source, O: Sink>(
@@ -55,7 +55,7 @@ pub fn check_fitted_with<A: Source, B: Source, O: Sink, E: Sink>(
         (Used E.failures err.old err.new) }
 {
     let judged = judge_fitted_for(alloc, order.asked, first, second)?;
-    let subject = Subject::Model(Lines::Whole(&judged.model));
+    let subject = Subject::Model(judged.model.lines());
     answer_told(
         alloc,
         order,

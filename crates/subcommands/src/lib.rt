@@ -30,7 +30,10 @@ pub use certifying::{check_proof, write_obligation};
 pub use circuits::{check_circuit, check_circuit_with};
 pub use files::{LateFile, NoFile, Stream, open_input};
 pub use fitted::{check_fitted, check_fitted_with, spread_witness, unfit_witness};
-pub use lifting::{lift_counterexample, lift_form_witness, lift_witness};
+pub use lifting::{
+    lift_counterexample, lift_fitted_counterexample, lift_fitted_form_witness, lift_fitted_witness,
+    lift_form_witness, lift_witness,
+};
 pub use models::{check_model, check_model_with, show, show_whole, tell_cost, tell_cost_fitted};
 pub use named_files::{NamedFiles, NoName, ResultName};
 pub use objects::write_failed;

@@ -6,7 +6,7 @@ ghost use Rattle.verbs.specs.declared.refusals.Claimed.TheVariants as claimed_is
 ghost use Rattle.verbs.specs.Refusals.{IsNotClaimable, IsNotClaimed, IsNotForEngines};
 ghost use Rattle.verbs.specs.Statuses.{Ends, EndsUnrefused, IfInput};
 ghost use Rattle.verbs.specs.Statuses.Use.{Unused, Used};
-ghost use Rattle.subcommands.specs.Restoring.{Lifts, LiftsForm, LiftsFound, TellsLifted, lifting_said};
+ghost use Rattle.subcommands.specs.Restoring.{Lifts, LiftsFitted, LiftsForm, LiftsFormFitted, LiftsFound, LiftsFoundFitted, TellsLifted, lifting_said_of};
 
 use crate::answers::Answer;
 use crate::assumed::tell_form_judgement;
@@ -17,7 +17,10 @@ use blast::Watch;
 use restore::RestoreFault;
 use rises::FirstRises;
 use std::alloc::Global;
-use verbs::{FoundLifted, Lines, Lowered, Refusal, Subject, lift, lift_found, lift_from_form};
+use verbs::{
+    Lines, Refusal, Subject, lift, lift_fitted, lift_found, lift_found_fitted, lift_from_form,
+    lift_from_form_fitted,
+};
 use witness::Judgement;
 
 /// Lifts a witness of the circuit of a model to standard output, with names or without, and tells its judgement on standard
@@ -58,16 +61,15 @@ pub fn lift_witness<A: Source, B: Source, O: Sink, E: Sink, W: Watch>(
 fn tell_lifted<E: Sink>(
     alloc: Global,
     named: bool,
-    lowered: &Lowered,
+    subject: Subject<'_>,
     told: &Result<(Judgement, FirstRises), RestoreFault>,
     err: &mut E,
 ) -> Result<Answer, Refusal>
     ensures told { IfOk result
-        (λ answer. TellsLifted (lifting_said named lowered.now) told.now answer
+        (λ answer. TellsLifted (lifting_said_of named subject.entry) told.now answer
         (E.written err.old) (E.written err.new)) }
     ensures ends { EndsUnrefused result Unused Unused Unused (Used E.failures err.old err.new) }
 {
-    let subject = Subject::Lowered(Lines::Profile(&lowered.model), &lowered.circuit);
     match told {
         Ok((judgement, firsts)) => tell_judgement(alloc, named, subject, judgement, firsts, err),
         Err(fault) => tell_malformed(alloc, fault, err),
@@ -96,7 +98,11 @@ pub fn lift_counterexample<A: Source, B: Source, O: Sink, E: Sink, W: Watch>(
         (Used E.failures err.old err.new) }
 {
     let lifted = lift_found(alloc, named, choice, first, second, out, watch)?;
-    tell_lifted(alloc, named, &lifted.lowered, &lifted.told, err)
+    let subject = Subject::Lowered(
+        Lines::Profile(&lifted.lowered.model),
+        &lifted.lowered.circuit,
+    );
+    tell_lifted(alloc, named, subject, &lifted.told, err)
 }
 
 /// Lifts a witness of the engine form of the circuit of a model to standard output, with names or without, and tells on
@@ -127,6 +133,97 @@ pub fn lift_form_witness<A: Source, B: Source, O: Sink, E: Sink, W: Watch>(
         Lines::Profile(&lifted.lowered.model),
         &lifted.lowered.circuit,
     );
+    tell_form_judgement(
+        alloc,
+        named,
+        subject,
+        &lifted.judgement,
+        &lifted.firsts,
+        choice,
+        count,
+        err,
+    )
+}
+
+/// Lifts a witness of the circuit of the model that a model of the whole language is fitted into to standard output, with names or
+/// without, and tells on standard error what is judged of it over the model, with names behind that what the judgement is about, and
+/// of an acceptance in which frames the claims are reached first.
+pub fn lift_fitted_witness<A: Source, B: Source, O: Sink, E: Sink, W: Watch>(
+    alloc: Global,
+    named: bool,
+    first: &mut A,
+    second: &mut B,
+    out: &mut O,
+    err: &mut E,
+    watch: &mut W,
+) -> Result<Answer, Refusal>
+    ensures done { IfOk result (LiftsFitted named (A.to_come first.old) (B.to_come second.old)
+        (O.written out.old) (O.written out.new) (E.written err.old) (E.written err.new)) }
+    ensures refused { IfErr result (IfInput (IsNotClaimable given_is.Fitted (A.to_come first.old))) }
+    ensures ends { Ends result (Used A.failures first.old first.new)
+        (Used B.failures second.old second.new) (Used O.failures out.old out.new)
+        (Used E.failures err.old err.new) }
+{
+    let lifted = lift_fitted(alloc, named, first, second, out, watch)?;
+    let subject = Subject::Model(Lines::Whole(&lifted.model));
+    tell_judgement(
+        alloc,
+        named,
+        subject,
+        &lifted.judgement,
+        &lifted.firsts,
+        err,
+    )
+}
+
+/// The same of a counterexample over the engine form of that circuit.
+pub fn lift_fitted_counterexample<A: Source, B: Source, O: Sink, E: Sink, W: Watch>(
+    alloc: Global,
+    named: bool,
+    choice: Option<usize>,
+    first: &mut A,
+    second: &mut B,
+    out: &mut O,
+    err: &mut E,
+    watch: &mut W,
+) -> Result<Answer, Refusal>
+    ensures done { IfOk result (LiftsFoundFitted named choice (A.to_come first.old)
+        (B.to_come second.old) (O.written out.old) (O.written out.new) (E.written err.old)
+        (E.written err.new)) }
+    ensures refused { IfErr result
+        (IfInput (IsNotClaimed claimed_is.Found given_is.Fitted choice (A.to_come first.old))) }
+    ensures ends { Ends result (Used A.failures first.old first.new)
+        (Used B.failures second.old second.new) (Used O.failures out.old out.new)
+        (Used E.failures err.old err.new) }
+{
+    let lifted = lift_found_fitted(alloc, named, choice, first, second, out, watch)?;
+    let subject = Subject::Model(Lines::Whole(&lifted.model));
+    tell_lifted(alloc, named, subject, &lifted.told, err)
+}
+
+/// The same of a witness of that engine form; and it tells what the form is taken for, where none of several bad properties is chosen.
+pub fn lift_fitted_form_witness<A: Source, B: Source, O: Sink, E: Sink, W: Watch>(
+    alloc: Global,
+    named: bool,
+    choice: Option<usize>,
+    first: &mut A,
+    second: &mut B,
+    out: &mut O,
+    err: &mut E,
+    watch: &mut W,
+) -> Result<Answer, Refusal>
+    ensures done { IfOk result (LiftsFormFitted named choice (A.to_come first.old)
+        (B.to_come second.old) (O.written out.old) (O.written out.new) (E.written err.old)
+        (E.written err.new)) }
+    ensures refused { IfErr result
+        (IfInput (IsNotForEngines given_is.Fitted choice (A.to_come first.old))) }
+    ensures ends { Ends result (Used A.failures first.old first.new)
+        (Used B.failures second.old second.new) (Used O.failures out.old out.new)
+        (Used E.failures err.old err.new) }
+{
+    let lifted = lift_from_form_fitted(alloc, named, choice, first, second, out, watch)?;
+    let count = lifted.circuit.bads().len();
+    let subject = Subject::Model(Lines::Whole(&lifted.model));
     tell_form_judgement(
         alloc,
         named,

@@ -23,7 +23,7 @@ use Rattle.witness.proofs.FrameLemmas.{bad_names, length-nodes}
 use Rattle.rises.specs.FirstRises.{word_first_rises, bit_first_rises, AreBitFirstRises}
 use Rattle.verbs.specs.declared.refusals.Fault.{Fault}
 use Rattle.verbs.specs.declared.refusals.Fault.TheVariants as fault
-use Rattle.verbs.specs.Asked.{AsksFor, AsksForNone, IsAskedBy, IsNotJudgedWith, is_claim_noted, is_claimed, is_name_of, is_noted, is_symbol_of}
+use Rattle.verbs.specs.Asked.{AsksFor, AsksForNone, IsAskedBy, IsNotJudgedWith, IsUnjudgedFor, is_claim_noted, is_claimed, is_name_of, is_noted, is_symbol_of}
 use Rattle.verbs.specs.Judging.{IsAccepted}
 use Rattle.verbs.specs.Subjects.{model_told, whole_told}
 
@@ -121,7 +121,13 @@ pub each_reached : {P Q : List ℕ → Type 0} (witness : Option (List ℕ)) →
 each_reached None h reaches = tt
 each_reached (Some text) h reaches = reaches text h
 
--- what a word asks for in vain is what a text is refused for
+-- what a word asks for in vain
+pub unasked_for : (word : Option (List ℕ)) (items : List Item) (f : Fault) → AsksForNone word (length (places is_bad 0 items)) (is_symbol_of (model_told items)) f → IsUnjudgedFor word items f
+unasked_for None items f none = absurd none
+unasked_for (Some word) items (fault.NoNext id) none = absurd none
+unasked_for (Some word) items _ none = none
+
+-- is what a text is refused for
 pub unasked_words : (word known : Option (List ℕ)) (items : List Item) (f : Fault) → IsModelOf known items → AsksForNone word (length (places is_bad 0 items)) (is_symbol_of (model_told items)) f → IsNotJudgedWith word known f
 unasked_words None known items f text none = absurd none
 unasked_words (Some word) known items (fault.Engine e) text none = record { items = items; text = text; unasked = none }

@@ -19,6 +19,7 @@ use Rattle.verbs.specs.declared.refusals.Refusal.TheVariants as refusal
 use Rattle.verbs.specs.Conversions.{of_fitting, of_fitting_written}
 use Rattle.verbs.specs.Fitting.{FitsFirst, FitsWhole, IsFitText, IsKept, IsNotFit, IsNotFitted, IsOfWords, IsProfileOf, IsUnwrittenOrLong, IsWritingFault}
 use Rattle.verbs.specs.Statuses.{IfInput}
+use Rattle.verbs.specs.Unfitting.{IsUnfitAlone}
 
 -- it is kept by whatever is made of it
 pub all_kept : (r : Result (List Item) Refusal) (text : List ℕ) → ((items : List Item) → StandsFor text items → ¬ (first_init_without_next items items ≡ None)) → IfOk r (IsKept text)
@@ -32,34 +33,44 @@ profile_of text m (Some x) same stands h = (subst (StandsFor text) (sym h.0) sta
 profile_of text m None same stands h = λ items also ready. h (subst (λ (y : List Item). first_init_without_next y y ≡ None) (same items also stands) ready)
 
 -- the same of a model with words of any width
-pub words_of_text : (text : List ℕ) (m : List Item) (r : Option (List Item)) → StandsForWide text m → IfSome r (λ x. (x ≡ m) × (first_init_without_next m m ≡ None)) → IsOfWords text r
-words_of_text text m (Some x) stands h = (subst (StandsForWide text) (sym h.0) stands, subst (λ (y : List Item). first_init_without_next y y ≡ None) (sym h.0) h.1)
-words_of_text text m None stands h = tt
+pub words_of_text : (text : List ℕ) (m : List Item) (r : Option (List Item)) → ((items : List Item) → StandsForWide text items → StandsForWide text m → items ≡ m) → StandsForWide text m
+    → MatchOption r (first_init_without_next m m ≢ None) (λ x. (x ≡ m) × (first_init_without_next m m ≡ None)) → IsOfWords text r
+words_of_text text m (Some x) same stands h = (subst (StandsForWide text) (sym h.0) stands, subst (λ (y : List Item). first_init_without_next y y ≡ None) (sym h.0) h.1)
+words_of_text text m None same stands h = λ items also ready. h (subst (λ (y : List Item). first_init_without_next y y ≡ None) (same items also stands) ready)
+
+-- a text of no such list is of no such model of the profile
+pub no_profile : (text : List ℕ) → ((text : List ℕ) (items : List Item) → StandsFor text items → StandsForWide text items) → IsOfWords text None → IsProfileOf text None
+no_profile text wide none = λ items stands ready. none items (wide text items stands) ready
 
 -- ---- refusals
 
 -- a model with words of any width that is not fitted
-pub not_fit_words : (text : List ℕ) (wide : List Item) (e : FitFault) → StandsForWide text wide → IsUnfit wide e → IfInput (IsNotFit text) (of_fitting e)
-not_fit_words text wide fit.NoMemory stands unfit = tt
-not_fit_words text wide _ stands unfit = inl (record { wide = wide; stands = stands; unfit = unfit })
+pub not_fit_words : (text : List ℕ) (wide : List Item) (e : FitFault) → IsProfileOf text None → StandsForWide text wide → IsUnfit wide e → IfInput (IsNotFit text) (of_fitting e)
+not_fit_words text wide fit.NoMemory none stands unfit = tt
+not_fit_words text wide _ none stands unfit = inl (record { not_profile = none; wide = wide; stands = stands; unfit = unfit })
+
+-- the same of one that is not written out
+pub unfit_alone : (text : List ℕ) (wide : List Item) (e : FitFault) → IsProfileOf text None → StandsForWide text wide → IsUnfit wide e → IfInput (IsUnfitAlone text) (of_fitting e)
+unfit_alone text wide fit.NoMemory none stands unfit = tt
+unfit_alone text wide _ none stands unfit = record { not_profile = none; wide = wide; stands = stands; unfit = unfit }
 
 -- a list that a model was written out as, and that is not fitted
-pub not_fit_written : (text : List ℕ) (lines : List FullLine) (wide : List Item) (e : FitFault) → StandsForFull text lines → IsWrittenInCells lines wide → IsUnfit wide e
+pub not_fit_written : (text : List ℕ) (lines : List FullLine) (wide : List Item) (e : FitFault) → IsProfileOf text None → StandsForFull text lines → IsWrittenInCells lines wide → IsUnfit wide e
     → IfInput (IsNotFit text) (of_fitting_written e)
-not_fit_written text lines wide fit.NoMemory stands written unfit = tt
-not_fit_written text lines wide (fit.TooManyItems id) stands written unfit =
-    record { lines = lines; stands = stands; unwritten = inr (record { wide = wide; written = written; id = id; unfit = unfit }) }
-not_fit_written text lines wide _ stands written unfit = inr (record { lines = lines; stands = stands; wide = wide; written = written; unfit = unfit })
+not_fit_written text lines wide fit.NoMemory none stands written unfit = tt
+not_fit_written text lines wide (fit.TooManyItems id) none stands written unfit =
+    record { not_profile = none; lines = lines; stands = stands; unwritten = inr (record { wide = wide; written = written; id = id; unfit = unfit }) }
+not_fit_written text lines wide _ none stands written unfit = inr (record { not_profile = none; lines = lines; stands = stands; wide = wide; written = written; unfit = unfit })
 
 -- a model that is not written out
 pub or_long : (lines : List FullLine) (e : WriteFault) → IsUnwritten lines e → IsUnwrittenOrLong lines e
 or_long lines write.TooManyItems h = inl h
 or_long lines _ h = h
 
-pub unwritten_text : (text : List ℕ) (lines : List FullLine) (x : Refusal) → StandsForFull text lines → IfInput (IsWritingFault lines) x → IfInput (IsNotFit text) x
-unwritten_text text lines (refusal.Input (fault.Writing e)) stands h = record { lines = lines; stands = stands; unwritten = or_long lines e h }
-unwritten_text text lines (refusal.Input _) stands h = absurd h
-unwritten_text text lines _ stands h = tt
+pub unwritten_text : (text : List ℕ) (lines : List FullLine) (x : Refusal) → IsProfileOf text None → StandsForFull text lines → IfInput (IsWritingFault lines) x → IfInput (IsNotFit text) x
+unwritten_text text lines (refusal.Input (fault.Writing e)) none stands h = record { not_profile = none; lines = lines; stands = stands; unwritten = or_long lines e h }
+unwritten_text text lines (refusal.Input _) none stands h = absurd h
+unwritten_text text lines _ none stands h = tt
 
 -- none of two that cannot be
 pub neither : {P Q : Type 0} → (P → ⊥) → (Q → ⊥) → P ⊎ Q → ⊥
@@ -81,6 +92,10 @@ fits_first (Ok narrow) known text same fit = record {
   rise_alike = fit.rise_alike;
 }
 fits_first (Err x) known text same fit = tt
+
+pub fits_known : (known : Option (List ℕ)) (text : List ℕ) (narrow : List Item) → IfSome known (λ all. text ≡ all) → IsFitText text narrow → FitsFirst known narrow
+unfolding fits_first
+fits_known known text narrow same fit = fits_first (Ok narrow) known text same fit
 
 -- the model that the text stands for is that which is fitted
 pub fits_whole : (known : Option (List ℕ)) (text : List ℕ) (narrow : List Item) (full : List FullLine) → IfSome known (λ all. text ≡ all) → IsFitText text narrow → StandsForFull text full

@@ -1,5 +1,5 @@
 -- What is refused of a first text that gives a circuit.
-use Rattle.std.proofs.Common.{◌≡◌, inl, inr, ℕ, List, Option, None, Some, Result, Ok, Err, IfErr, refl}
+use Rattle.std.proofs.Common.{◌≡◌, inl, inr, ℕ, List, Option, None, Some, Result, Ok, Err, IfErr, IfOk, refl}
 use Rattle.btor2.specs.declared.item.Item.{Item}
 use Rattle.btor2.specs.Check.{IsWellFormed}
 use Rattle.btor2.specs.Lists.{first_init_without_next}
@@ -27,7 +27,10 @@ use Rattle.verbs.specs.declared.refusals.Fault.TheVariants as fault
 use Rattle.verbs.specs.declared.refusals.Refusal.{Refusal}
 use Rattle.verbs.specs.declared.refusals.Refusal.TheVariants as refusal
 use Rattle.verbs.specs.Claims.{IsClaim}
-use Rattle.verbs.specs.Asked.{IsNotJudgedWith}
+use Rattle.verbs.specs.Asked.{IsNotJudgedWith, IsUnjudgedFor}
+use Rattle.verbs.specs.Judging.{IsJudgedFor}
+use Rattle.verbs.specs.declared.judging.JudgedOverModel.{JudgedOverModel}
+use Rattle.verbs.proofs.AskedLemmas.{unasked_words}
 use Rattle.verbs.specs.Conversions.{of_dumping, of_engine_form, of_judging, of_lifting}
 use Rattle.verbs.specs.Fitting.{FitsFirst, IsNotFitted}
 use Rattle.verbs.specs.Given.{GivesItsCircuit, IsLowered, IsLoweredFitted, LowersFitted}
@@ -136,11 +139,30 @@ unjudged known items (judge.NoNext id) text valid answer = record { items = item
 unjudged known items judge.Device text valid answer = tt
 unjudged known items judge.NoMemory text valid answer = tt
 
-pub unjudged_with : (word known : Option (List ℕ)) (items : List Item) (e : JudgeFault) → IsModelOf known items → IsWellFormed items → AnswersJudge {T = ℕ} (Err e) (first_init_without_next items items) → IfInput (IsNotJudgedWith word known) (of_judging e)
-unjudged_with None known items (judge.NoNext id) text valid answer = record { items = items; text = text; well_formed = valid; first = answer }
-unjudged_with (Some word) known items (judge.NoNext id) text valid answer = record { items = items; text = text; well_formed = valid; first = answer }
-unjudged_with word known items judge.Device text valid answer = tt
-unjudged_with word known items judge.NoMemory text valid answer = tt
+-- over which nothing is judged, or of which no bad property is asked for
+pub unjudged_for : (word : Option (List ℕ)) (items : List Item) (e : JudgeFault) → AnswersJudge {T = ℕ} (Err e) (first_init_without_next items items) → IfInput (IsUnjudgedFor word items) (of_judging e)
+unjudged_for word items (judge.NoNext id) answer = answer
+unjudged_for word items judge.Device answer = tt
+unjudged_for word items judge.NoMemory answer = tt
+
+not_judged_by : (word known : Option (List ℕ)) (items : List Item) (x : Refusal) → IsModelOf known items → IsWellFormed items → IfInput (IsUnjudgedFor word items) x → IfInput (IsNotJudgedWith word known) x
+not_judged_by None known items (refusal.Input (fault.NoNext id)) text valid h = record { items = items; text = text; well_formed = valid; first = h }
+not_judged_by (Some word) known items (refusal.Input (fault.NoNext id)) text valid h = record { items = items; text = text; well_formed = valid; first = h }
+not_judged_by None known items (refusal.Input _) text valid h = absurd h
+not_judged_by (Some word) known items (refusal.Input f) text valid h = unasked_words (Some word) known items f text h
+not_judged_by word known items _ text valid h = tt
+
+pub not_judged_for : {T : Type 0} (r : Result T Refusal) (word known : Option (List ℕ)) (items : List Item) → IsModelOf known items → IsWellFormed items → IfErr r (IfInput (IsUnjudgedFor word items))
+    → IfErr r (IfInput (IsNotJudgedWith word known))
+not_judged_for (Ok j) word known items text valid h = tt
+not_judged_for (Err x) word known items text valid h = not_judged_by word known items x text valid h
+
+-- what is judged over it is judged over a text of it
+pub judged_for : (r : Result JudgedOverModel Refusal) (word known witness : Option (List ℕ)) (items : List Item) → IsModelOf known items
+    → IfOk r (λ judged. (judged.model ≡ items) × ((known : Option (List ℕ)) → IsModelOf known items → IsJudgedFor word known witness judged))
+    → IfOk r (IsJudgedFor word known witness)
+judged_for (Ok judged) word known witness items text h = h.1 known text
+judged_for (Err x) word known witness items text h = tt
 
 pub undumped : (known : Option (List ℕ)) (items : List Item) (e : WaveFault) → IsModelOf known items → IsWellFormed items → AnswersWave {T = ℕ} (Err e) (first_init_without_next items items) → IfInput (IsNotJudged known) (of_dumping e)
 undumped known items (wave.NoNext id) text valid answer = record { items = items; text = text; well_formed = valid; first = answer }

@@ -2,6 +2,7 @@ pub mod AskedLemmas
 pub mod CertificateLemmas
 pub mod CountLemmas
 pub mod EngineLemmas
+pub mod FitLemmas
 pub mod FittedLemmas
 pub mod GivenLemmas
 pub mod PlaceLemmas

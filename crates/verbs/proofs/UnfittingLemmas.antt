@@ -1,5 +1,5 @@
 -- Of models with words of any width that are known and fitted, what is refused and how a command ends.
-use Rattle.std.proofs.Common.{◌≡◌, ◌∙◌, ℕ, List, Option, Some, None, Err, IfSome, refl, sym, subst}
+use Rattle.std.proofs.Common.{◌≡◌, ◌∙◌, ℕ, Bool, List, Option, Some, None, Err, IfSome, refl, sym, subst}
 use Rattle.btor2.specs.declared.item.Item.{Item}
 use Rattle.btor2.specs.Lists.{first_init_without_next}
 use Rattle.fitting.specs.Models.{IsFit}
@@ -17,7 +17,14 @@ use Rattle.verbs.specs.declared.refusals.Refusal.TheVariants as refusal
 use Rattle.verbs.specs.Conversions.{of_judging, of_unfitting}
 use Rattle.verbs.specs.Statuses.{Ends, IfInput}
 use Rattle.verbs.specs.Statuses.Use.{Unused}
-use Rattle.verbs.specs.Unfitting.{IsReady, IsReadyFor}
+use Rattle.std.specs.Io.KnownBytes.{Appends}
+use Rattle.rejoin.specs.Pieces.{joined_judgement}
+use Rattle.unfit.specs.Joined.{Wide}
+use Rattle.unfit.specs.Unfitted.{KeepsJudgement, unfit_text}
+use Rattle.witness.specs.declared.judgement.Judgement.{Judgement}
+use Rattle.witness.specs.Judgements.{Judges}
+use Rattle.witness.specs.Texts.{Shape}
+use Rattle.verbs.specs.Unfitting.{IsReady, IsReadyFor, IsUnfittedWide, known_of}
 
 -- ---- refusals
 
@@ -52,3 +59,24 @@ none_named_judging T wide narrow judge.NoMemory P fit free answer = tt
 
 pub of_ready : (text : List ℕ) (r : Ready) (h : IsReadyFor text r) → IsOfFitted r.known.shape r.narrow h.wide
 of_ready text r h = record { is_shape = h.known.shape; model = h.ready.stands.well_formed; fit = h.ready.fit }
+
+known_same : (named : Bool) (text : List ℕ) (r : Ready) (h : IsReadyFor text r) → record { shape = r.known.shape; names = r.known.names; named = named } ≡ known_of named h.wide
+known_same named text r h = rw (h.known.shape, h.known.names) refl
+
+pub unfitted_ready : (named : Bool) (text : List ℕ) (r : Ready) (h : IsReadyFor text r) (witness before now : Option (List ℕ)) (j : Judgement)
+    → IfSome witness (λ t. (k : Judgement) × (Judges r.narrow t k × (j ≡ joined_judgement r.known.shape k)))
+    → IfSome witness (λ t. Appends before now (unfit_text (record { shape = r.known.shape; names = r.known.names; named = named }) r.narrow t))
+    → IfSome witness (λ t. KeepsJudgement h.wide (unfit_text (record { shape = r.known.shape; names = r.known.names; named = named }) r.narrow t) j)
+    → (u : IsUnfittedWide named (Some text) witness before now j) × (u.narrow ≡ r.narrow)
+unfitted_ready named text r h witness before now j judged written kept =
+    let is = known_same named text r h in (
+      record {
+        wide = h.wide;
+        narrow = r.narrow;
+        ready = h.ready;
+        judged = subst (λ (s : Shape). IfSome witness (λ t. (k : Judgement) × (Judges r.narrow t k × (j ≡ joined_judgement s k)))) h.known.shape judged;
+        written = subst (λ (w : Wide). IfSome witness (λ t. Appends before now (unfit_text w r.narrow t))) is written;
+        kept = subst (λ (w : Wide). IfSome witness (λ t. KeepsJudgement h.wide (unfit_text w r.narrow t) j)) is kept;
+      },
+      refl,
+    )

@@ -29,11 +29,19 @@ use Rattle.verbs.specs.declared.refusals.Fault.TheVariants as fault
 use Rattle.verbs.specs.declared.refusals.Refusal.{Refusal}
 use Rattle.verbs.specs.declared.refusals.Refusal.TheVariants as refusal
 use Rattle.verbs.specs.declared.whole.Whole.{Whole}
-use Rattle.verbs.specs.Asked.{AsksForNone, IsNotFittedWith, is_symbol_of}
-use Rattle.verbs.specs.Fitting.{IsNoWholeModel, IsNotFit, IsNotFitted}
+use Rattle.verbs.specs.Asked.{AsksForNone, IsNotFittedWith, IsUnjudgedFor, is_symbol_of}
+use Rattle.verbs.specs.Judging.{IsJudgedFor, IsJudgedFittedFor, IsJudgedOverGiven}
+use Rattle.verbs.specs.declared.given.GivenModel.{GivenModel}
+use Rattle.verbs.specs.declared.given.GivenModel.TheVariants as given_model
+use Rattle.verbs.specs.declared.judging.JudgedOverModel.{JudgedOverModel}
+use Rattle.verbs.specs.declared.judging_whole.JudgedFitted.{JudgedFitted}
+use Rattle.verbs.specs.declared.outcomes.Outcome.{Outcome}
+use Rattle.btor2.specs.Lists.{first_init_without_next}
+use Rattle.btor2text.specs.Spelling.{IsModelOf}
+use Rattle.verbs.specs.Fitting.{IsNoWholeModel, IsNotFit, IsNotFitted, IsProfileOf}
 use Rattle.verbs.specs.Statuses.{IfInput}
 use Rattle.verbs.specs.Subjects.{whole_told}
-use Rattle.verbs.specs.Unfitting.{IsSpreadWide}
+use Rattle.verbs.specs.Unfitting.{IsSpreadWide, IsUnfittedWide}
 use Rattle.verbs.specs.Whole.{IsJudgedByWhole, IsJudgedFitted, IsJudgedWhole, IsNotWhole, IsSpread, IsSpreadByWhole, IsSpreadWhole, IsUnfittedByWhole, IsUnfittedWhole, IsWholeOf}
 use Rattle.verbs.proofs.FittedLemmas.{not_fitted, seen}
 use Rattle.verbs.proofs.UnfittingLemmas.{ready_as}
@@ -41,11 +49,11 @@ use Rattle.verbs.proofs.UnfittingLemmas.{ready_as}
 -- ---- refusals
 
 -- the same of a text that stands for it
-pub not_fit_whole : (text : List ℕ) (lines : List FullLine) (x : Refusal) → StandsForFull text lines → IfInput (IsNotWhole lines) x → IfInput (IsNotFit text) x
-not_fit_whole text lines (refusal.Input (fault.Writing e)) stands h = record { lines = lines; stands = stands; unwritten = h }
-not_fit_whole text lines (refusal.Input (fault.Fitting e)) stands h = inr (record { lines = lines; stands = stands; wide = h.0; written = h.1; unfit = h.2 })
-not_fit_whole text lines (refusal.Input _) stands h = absurd h
-not_fit_whole text lines _ stands h = tt
+pub not_fit_whole : (text : List ℕ) (lines : List FullLine) (x : Refusal) → IsProfileOf text None → StandsForFull text lines → IfInput (IsNotWhole lines) x → IfInput (IsNotFit text) x
+not_fit_whole text lines (refusal.Input (fault.Writing e)) none stands h = record { not_profile = none; lines = lines; stands = stands; unwritten = h }
+not_fit_whole text lines (refusal.Input (fault.Fitting e)) none stands h = inr (record { not_profile = none; lines = lines; stands = stands; wide = h.0; written = h.1; unfit = h.2 })
+not_fit_whole text lines (refusal.Input _) none stands h = absurd h
+not_fit_whole text lines _ none stands h = tt
 
 -- ---- the same where a word may ask for a bad property
 
@@ -57,28 +65,92 @@ no_model_with word known (refusal.Input _) h = absurd h
 no_model_with word known _ h = tt
 
 -- what keeps the model from being written out, or fitted
-fits_not : (known : Option (List ℕ)) (lines : List FullLine) (f : Fault) → IfSome known (λ text. StandsForFull text lines) → IsNotWhole lines f → IsNotFitted known f
-fits_not None lines (fault.Writing e) stands h = tt
-fits_not None lines (fault.Fitting e) stands h = tt
-fits_not (Some text) lines (fault.Writing e) stands h = record { lines = lines; stands = stands; unwritten = h }
-fits_not (Some text) lines (fault.Fitting e) stands h = inr (record { lines = lines; stands = stands; wide = h.0; written = h.1; unfit = h.2 })
-fits_not known lines _ stands h = absurd h
-
-pub not_whole_with : (word known : Option (List ℕ)) (lines : List FullLine) (x : Refusal) → IfSome known (λ text. StandsForFull text lines) → IfInput (IsNotWhole lines) x
-    → IfInput (IsNotFittedWith word known) x
-not_whole_with None known lines (refusal.Input f) stands h = fits_not known lines f stands h
-not_whole_with (Some word) known lines (refusal.Input (fault.Writing e)) stands h = fits_not known lines (fault.Writing e) stands h
-not_whole_with (Some word) known lines (refusal.Input (fault.Fitting e)) stands h = fits_not known lines (fault.Fitting e) stands h
-not_whole_with word known lines (refusal.Input _) stands h = absurd h
-not_whole_with word known lines _ stands h = tt
+pub not_whole_with : (word : Option (List ℕ)) (text : List ℕ) (lines : List FullLine) (x : Refusal) → IsProfileOf text None → StandsForFull text lines → IfInput (IsNotWhole lines) x
+    → IfInput (IsNotFittedWith word (Some text)) x
+not_whole_with None text lines (refusal.Input (fault.Writing e)) none stands h = not_fit_whole text lines (refusal.Input (fault.Writing e)) none stands h
+not_whole_with None text lines (refusal.Input (fault.Fitting e)) none stands h = not_fit_whole text lines (refusal.Input (fault.Fitting e)) none stands h
+not_whole_with (Some word) text lines (refusal.Input (fault.Writing e)) none stands h = not_fit_whole text lines (refusal.Input (fault.Writing e)) none stands h
+not_whole_with (Some word) text lines (refusal.Input (fault.Fitting e)) none stands h = not_fit_whole text lines (refusal.Input (fault.Fitting e)) none stands h
+not_whole_with word text lines (refusal.Input _) none stands h = absurd h
+not_whole_with word text lines _ none stands h = tt
 
 -- what a word asks for in vain
 pub unasked_whole : (word known : Option (List ℕ)) (full : List FullLine) (f : Fault) → IfSome known (λ text. StandsForFull text full)
     → AsksForNone word (length (lines_of is_bad full)) (is_symbol_of (whole_told full)) f → IsNotFittedWith word known f
 unasked_whole None known full f stands none = absurd none
-unasked_whole (Some word) known full (fault.Engine e) stands none = record { full = full; text = stands; unasked = none }
-unasked_whole (Some word) known full (fault.SameName j k) stands none = record { full = full; text = stands; unasked = none }
+unasked_whole (Some word) known full (fault.Engine e) stands none = inr (record { full = full; text = stands; unasked = none })
+unasked_whole (Some word) known full (fault.SameName j k) stands none = inr (record { full = full; text = stands; unasked = none })
 unasked_whole (Some word) known full _ stands none = absurd none
+
+-- the same of a model that needs no fitting
+pub not_fitted_profile : (word known : Option (List ℕ)) (items : List Item) (x : Refusal) → IsModelOf known items → first_init_without_next items items ≡ None → IfInput (IsUnjudgedFor word items) x
+    → IfInput (IsNotFittedWith word known) x
+not_fitted_profile word known items (refusal.Input (fault.NoNext id)) text ready h = absurd (cc (h, ready))
+not_fitted_profile None known items (refusal.Input _) text ready h = absurd h
+not_fitted_profile (Some word) known items (refusal.Input (fault.Engine e)) text ready h = inl (record { items = items; text = text; unasked = h })
+not_fitted_profile (Some word) known items (refusal.Input (fault.SameName j k)) text ready h = inl (record { items = items; text = text; unasked = h })
+not_fitted_profile (Some word) known items (refusal.Input _) text ready h = absurd h
+not_fitted_profile word known items _ text ready h = tt
+
+pub judged_over_profile : (word known witness : Option (List ℕ)) (r : JudgedOverModel) → IsJudgedFor word known witness r
+    → IsJudgedFittedFor word known witness (record { model = given_model.Profile r.model; outcome = r.outcome; firsts = r.firsts })
+judged_over_profile word known witness r is = is
+
+-- of all that was to come
+unread_refused : (word : Option (List ℕ)) (text : List ℕ) (f : Fault) → IsNotFittedWith word (Some text) f → IsNotFittedWith word None f
+unread_refused None text (fault.Model e) h = tt
+unread_refused None text (fault.Fitting e) h = tt
+unread_refused None text (fault.Writing e) h = tt
+unread_refused (Some word) text (fault.Model e) h = tt
+unread_refused (Some word) text (fault.Fitting e) h = tt
+unread_refused (Some word) text (fault.Writing e) h = tt
+unread_refused (Some word) text (fault.Engine e) (inl h) = inl (record { items = h.items; text = tt; unasked = h.unasked })
+unread_refused (Some word) text (fault.Engine e) (inr h) = inr (record { full = h.full; text = tt; unasked = h.unasked })
+unread_refused (Some word) text (fault.SameName j k) (inl h) = inl (record { items = h.items; text = tt; unasked = h.unasked })
+unread_refused (Some word) text (fault.SameName j k) (inr h) = inr (record { full = h.full; text = tt; unasked = h.unasked })
+unread_refused word text _ h = absurd h
+
+with_all : (word known : Option (List ℕ)) (text : List ℕ) (x : Refusal) → IfSome known (λ all. text ≡ all) → IfInput (IsNotFittedWith word (Some text)) x → IfInput (IsNotFittedWith word known) x
+with_all word None text (refusal.Input f) same h = unread_refused word text f h
+with_all word (Some all) text (refusal.Input f) same h = subst (λ (t : List ℕ). IsNotFittedWith word (Some t) f) same h
+with_all word known text _ same h = tt
+
+pub refused_with_all : (r : Result JudgedFitted Refusal) (word known : Option (List ℕ)) (text : List ℕ) → IfSome known (λ all. text ≡ all) → IfErr r (IfInput (IsNotFittedWith word (Some text)))
+    → IfErr r (IfInput (IsNotFittedWith word known))
+refused_with_all (Ok j) word known text same h = tt
+refused_with_all (Err x) word known text same h = with_all word known text x same h
+
+unread_judged : (word witness : Option (List ℕ)) (text : List ℕ) (m : GivenModel) (o : Outcome) (firsts : List (Option ℕ)) → IsJudgedOverGiven word (Some text) witness m o firsts → IsJudgedOverGiven word None witness m o firsts
+unread_judged word witness text (given_model.Profile items) o firsts h = record {
+  claim = h.claim;
+  verdict = h.verdict;
+  claimed = h.claimed;
+  text = tt;
+  well_formed = h.well_formed;
+  each_has_next_or_is_free = h.each_has_next_or_is_free;
+  asked = h.asked;
+  judged = h.judged;
+  reached = h.reached;
+  claims = h.claims;
+  rises = h.rises;
+  outcome = h.outcome;
+}
+unread_judged word witness text (given_model.Whole full) o firsts h = record {
+  claim = h.claim;
+  verdict = h.verdict;
+  claimed = h.claimed;
+  stands = tt;
+  asked = h.asked;
+  judged = h.judged;
+  claims = h.claims;
+  outcome = h.outcome;
+}
+
+pub judged_over_all : (r : Result JudgedFitted Refusal) (word known witness : Option (List ℕ)) (text : List ℕ) → IfSome known (λ all. text ≡ all) → IfOk r (IsJudgedFittedFor word (Some text) witness)
+    → IfOk r (IsJudgedFittedFor word known witness)
+judged_over_all (Ok j) word None witness text same h = unread_judged word witness text j.model j.outcome j.firsts h
+judged_over_all (Ok j) word (Some all) witness text same h = subst (λ (t : List ℕ). IsJudgedFittedFor word (Some t) witness j) same h
+judged_over_all (Err x) word known witness text same h = tt
 
 -- ---- what is refused for nothing
 
@@ -159,19 +231,21 @@ pub unfitted_by : (named : Bool) (full : List FullLine) (w : Whole) (names : Nam
     → IfSome witness (λ text. (k : Judgement) × (Judges w.narrow text k × (j ≡ judged_by w.states None (joined_judgement w.shape k))))
     → IfSome witness (λ text. Appends before now (unfit_full_text w.states w.inputs w.shape names named w.words w.narrow text))
     → IfSome witness (λ text. KeepsFullJudgement full h.celled (unfit_full_text w.states w.inputs w.shape names named w.words w.narrow text) j)
-    → IsUnfittedByWhole named full witness before now j
+    → (u : IsUnfittedByWhole named full witness before now j) × (u.narrow ≡ w.narrow)
 unfitted_by named full w names h same witness before now j judged written kept =
-    let is = made_same full w names h same in
-    record {
-      celled = h.celled;
-      narrow = w.narrow;
-      words = w.words;
-      written_out = h.written;
-      placed = h.placed;
-      judged = subst (λ (m : Made). IfSome witness (λ text. (k : Judgement) × (Judges w.narrow text k × (j ≡ judged_by m.states None (joined_judgement m.shape k))))) is judged;
-      written = subst (λ (m : Made). IfSome witness (λ text. Appends before now (unfit_full_text m.states m.inputs m.shape m.names named w.words w.narrow text))) is written;
-      kept = subst (λ (m : Made). IfSome witness (λ text. KeepsFullJudgement full h.celled (unfit_full_text m.states m.inputs m.shape m.names named w.words w.narrow text) j)) is kept;
-    }
+    let is = made_same full w names h same in (
+      record {
+        celled = h.celled;
+        narrow = w.narrow;
+        words = w.words;
+        written_out = h.written;
+        placed = h.placed;
+        judged = subst (λ (m : Made). IfSome witness (λ text. (k : Judgement) × (Judges w.narrow text k × (j ≡ judged_by m.states None (joined_judgement m.shape k))))) is judged;
+        written = subst (λ (m : Made). IfSome witness (λ text. Appends before now (unfit_full_text m.states m.inputs m.shape m.names named w.words w.narrow text))) is written;
+        kept = subst (λ (m : Made). IfSome witness (λ text. KeepsFullJudgement full h.celled (unfit_full_text m.states m.inputs m.shape m.names named w.words w.narrow text) j)) is kept;
+      },
+      refl,
+    )
 
 -- ---- what is so over a text that was read is so over what was to come
 
@@ -210,7 +284,13 @@ pub spread_over_text : (r : Result Judgement Refusal) (text : List ℕ) (lines :
 spread_over_text r text lines witness before now stands h =
     where_judged (IsSpreadByWhole lines witness before now) (IsSpreadWhole (Some text) witness before now) r (λ j k. record { lines = lines; stands = stands; spread = k }) h
 
-pub unfitted_over_text : (named : Bool) (r : Result Judgement Refusal) (text : List ℕ) (lines : List FullLine) (witness before now : Option (List ℕ)) → StandsForFull text lines
-    → IfOk r (IsUnfittedByWhole named lines witness before now) → IfOk r (IsUnfittedWhole named (Some text) witness before now)
-unfitted_over_text named r text lines witness before now stands h =
-    where_judged (IsUnfittedByWhole named lines witness before now) (IsUnfittedWhole named (Some text) witness before now) r (λ j k. record { lines = lines; stands = stands; unfitted = k }) h
+pub unfitted_over_text : (named : Bool) (r : Result Judgement Refusal) (text : List ℕ) (lines : List FullLine) (narrow : List Item) (witness before now : Option (List ℕ)) → StandsForFull text lines
+    → IfOk r (λ j. (u : IsUnfittedByWhole named lines witness before now j) × (u.narrow ≡ narrow)) → IfOk r (IsUnfittedWhole named (Some text) witness before now)
+unfitted_over_text named r text lines narrow witness before now stands h =
+    where_judged (λ j. (u : IsUnfittedByWhole named lines witness before now j) × (u.narrow ≡ narrow)) (IsUnfittedWhole named (Some text) witness before now) r (λ j k. record { lines = lines; stands = stands; unfitted = k.0 }) h
+
+-- the same of a list of words
+pub unfitted_words : (named : Bool) (r : Result Judgement Refusal) (model witness before now : Option (List ℕ)) (narrow : List Item) → IfOk r (λ j. (u : IsUnfittedWide named model witness before now j) × (u.narrow ≡ narrow))
+    → IfOk r (IsUnfittedWide named model witness before now)
+unfitted_words named r model witness before now narrow h =
+    where_judged (λ j. (u : IsUnfittedWide named model witness before now j) × (u.narrow ≡ narrow)) (IsUnfittedWide named model witness before now) r (λ j k. k.0) h

@@ -1,10 +1,10 @@
 -- Which bad property a word asks for (this project's).
-use Rattle.std.specs.Prelude.{◌≡◌, ℕ, ◌<◌, ◌≤◌, Bool, true, false, List, length, Option, Some, None, IfSome, option_and_then, slice_get}
+use Rattle.std.specs.Prelude.{◌≡◌, ◌⊎◌, ℕ, ◌<◌, ◌≤◌, Bool, true, false, List, length, Option, Some, None, IfSome, option_and_then, slice_get}
 use Rattle.std.specs.Str.{bytes_eq}
 use Rattle.base.specs.Decimals.{number_of}
 use Rattle.btor2.specs.declared.item.Item.{Item}
 use Rattle.btor2.specs.Items.{is_bad}
-use Rattle.btor2.specs.Lists.{places}
+use Rattle.btor2.specs.Lists.{first_init_without_next, places}
 use Rattle.full.specs.Lines.{FullLine, lines_of}
 use Rattle.fulltext.specs.Spelling.{StandsForFull}
 use Rattle.btor2text.specs.Spelling.{IsModelOf}
@@ -134,10 +134,15 @@ IsNotJudgedOverFor word known (fault.Engine e) = LacksAskedOver word known (faul
 IsNotJudgedOverFor word known (fault.SameName j k) = LacksAskedOver word known (fault.SameName j k)
 IsNotJudgedOverFor word known f = IsNoCircuit known f
 
+-- nothing is judged over a model, or no bad property of it is asked for
+abbrev pub IsUnjudgedFor : Option (List ℕ) → List Item → Fault → Type 0
+IsUnjudgedFor word items (fault.NoNext id) = first_init_without_next items items ≡ Some id
+IsUnjudgedFor word items f = AsksForNone word (length (places is_bad 0 items)) (is_symbol_of (model_told items)) f
+
 -- the first text is of no model that is fitted, or of one of which no bad property is asked for
 abbrev pub IsNotFittedFor : List ℕ → Option (List ℕ) → Fault → Type 0
-IsNotFittedFor word known (fault.Engine e) = LacksAskedWhole word known (fault.Engine e)
-IsNotFittedFor word known (fault.SameName j k) = LacksAskedWhole word known (fault.SameName j k)
+IsNotFittedFor word known (fault.Engine e) = LacksAsked word known (fault.Engine e) ⊎ LacksAskedWhole word known (fault.Engine e)
+IsNotFittedFor word known (fault.SameName j k) = LacksAsked word known (fault.SameName j k) ⊎ LacksAskedWhole word known (fault.SameName j k)
 IsNotFittedFor word known f = IsNotFitted known f
 
 -- the same of a command that may ask for one

@@ -46,14 +46,26 @@ pub record IsFitText (text : List ℕ) (narrow : List Item) : Type 0 where
   pub fits : FitsWords text lines narrow ⊎ FitsWrittenOut lines narrow
   pub rise_alike : (b : ℕ) → CanRiseFull lines b ↔ CanRise narrow b
 
--- the text stands for a list of words, each of whose states has a next or is free, and this keeps it from being fitted
+-- a text stands for this model of the profile, each of whose states has a next or is free, or for none
+abbrev pub IsProfileOf : List ℕ → Option (List Item) → Type 0
+IsProfileOf text (Some items) = StandsFor text items × (first_init_without_next items items ≡ None)
+IsProfileOf text None = (items : List Item) → StandsFor text items → ¬ (first_init_without_next items items ≡ None)
+
+-- the same of a list of words
+abbrev pub IsOfWords : List ℕ → Option (List Item) → Type 0
+IsOfWords text (Some wide) = StandsForWide text wide × (first_init_without_next wide wide ≡ None)
+IsOfWords text None = (wide : List Item) → StandsForWide text wide → ¬ (first_init_without_next wide wide ≡ None)
+
+-- the text stands for a list of words, each of whose states has a next or is free, and for none of the profile, and this keeps it from being fitted
 pub record IsUnfitText (text : List ℕ) (e : FitFault) : Type 0 where
+  pub not_profile : IsProfileOf text None
   pub wide : List Item
   pub stands : StandsForWide text wide
   pub unfit : IsUnfit wide e
 
--- the text stands for a model of the whole language, and this keeps the list that it is written out as from being fitted
+-- the text stands for a model of the whole language that has to be fitted, and this keeps the list that it is written out as from being fitted
 pub record IsUnfitWrittenText (text : List ℕ) (e : FitFault) : Type 0 where
+  pub not_profile : IsProfileOf text None
   pub lines : List FullLine
   pub stands : StandsForFull text lines
   pub wide : List Item
@@ -77,8 +89,9 @@ abbrev pub IsWritingFault : List FullLine → Fault → Type 0
 IsWritingFault lines (fault.Writing e) = IsUnwritten lines e
 IsWritingFault lines _ = ⊥
 
--- the text stands for such a model
+-- the text stands for such a model, which has to be fitted
 pub record IsUnwrittenText (text : List ℕ) (e : WriteFault) : Type 0 where
+  pub not_profile : IsProfileOf text None
   pub lines : List FullLine
   pub stands : StandsForFull text lines
   pub unwritten : IsUnwrittenOrLong lines e
@@ -101,16 +114,6 @@ IsNotFitted known _ = ⊥
 abbrev pub IsNoWholeModel : Option (List ℕ) → Fault → Type 0
 IsNoWholeModel known (fault.Model e) = IfSome known (λ text. IsFullFaultOf text e)
 IsNoWholeModel known _ = ⊥
-
--- a text stands for this model of the profile, each of whose states has a next or is free, or for none
-abbrev pub IsProfileOf : List ℕ → Option (List Item) → Type 0
-IsProfileOf text (Some items) = StandsFor text items × (first_init_without_next items items ≡ None)
-IsProfileOf text None = (items : List Item) → StandsFor text items → ¬ (first_init_without_next items items ≡ None)
-
--- a text stands for this list of words, each of whose states has a next or is free
-abbrev pub IsOfWords : List ℕ → Option (List Item) → Type 0
-IsOfWords text (Some wide) = StandsForWide text wide × (first_init_without_next wide wide ≡ None)
-IsOfWords text None = Unit {0}
 
 -- a text of a model of the profile, each of whose states has a next or is free, is fitted into that model
 abbrev pub IsKept : List ℕ → List Item → Type 0

@@ -11,7 +11,7 @@ use Rattle.aiger.specs.Circuit.{Circuit, IsCircuit}
 use Rattle.aigertext.specs.Spelling.{IsCircuitText}
 use Rattle.reached.specs.Accepted.{Reaches, ReachesInCircuit}
 use Rattle.rises.specs.FirstRises.{AreBitFirstRises, word_first_rises}
-use Rattle.full.specs.Lines.{lines_of}
+use Rattle.full.specs.Lines.{FullLine, lines_of}
 use Rattle.fulljudge.specs.Rises.{JudgesFullWithRises, full_claimed}
 use Rattle.fulltext.specs.Spelling.{StandsForFull}
 use Rattle.spread.specs.Spread.{IsShort}
@@ -28,7 +28,10 @@ use Rattle.verbs.specs.Claims.{CanBeClaimed}
 use Rattle.verbs.specs.Subjects.{model_told, whole_told}
 use Rattle.verbs.specs.declared.judging.JudgedOverCircuit.{JudgedOverCircuit}
 use Rattle.verbs.specs.declared.judging.JudgedOverModel.{JudgedOverModel}
-use Rattle.verbs.specs.declared.judging_whole.JudgedOverWhole.{JudgedOverWhole}
+use Rattle.verbs.specs.declared.judging_whole.JudgedFitted.{JudgedFitted}
+use Rattle.verbs.specs.declared.given.GivenModel.{GivenModel}
+use Rattle.verbs.specs.declared.given.GivenModel.TheVariants as given_model
+use Rattle.verbs.specs.declared.outcomes.Outcome.{Outcome}
 
 -- a judgement is that the witness is accepted
 abbrev pub IsAccepted : Judgement → Type 0
@@ -69,15 +72,28 @@ pub record IsJudgedFor (word model witness : Option (List ℕ)) (r : JudgedOverM
   pub outcome : r.outcome ≡ outcome claim claimed verdict
 
 -- The same over a model of the whole language, of a witness of at most 2^44 lines; the first rises are those in the run by which it is judged.
-pub record IsJudgedWholeFor (word model witness : Option (List ℕ)) (r : JudgedOverWhole) : Type 0 where
+pub record IsJudgedWholeFor (word model witness : Option (List ℕ)) (full : List FullLine) (told : Outcome) (firsts : List (Option ℕ)) : Type 0 where
   pub claim : Option ℕ
   pub verdict : Judgement
   pub claimed : Bool
-  pub stands : IfSome model (λ text. StandsForFull text r.model)
-  pub asked : AsksFor word (length (lines_of is_bad r.model)) (is_symbol_of (whole_told r.model)) claim
-  pub judged : IfSome witness (λ text. IsShort text → JudgesFullWithRises r.model text verdict r.firsts)
-  pub claims : IfSome witness (λ text. IsShort text → IsAccepted verdict → claimed ≡ is_claimed claim (full_claimed r.model text))
-  pub outcome : r.outcome ≡ outcome claim claimed verdict
+  pub stands : IfSome model (λ text. StandsForFull text full)
+  pub asked : AsksFor word (length (lines_of is_bad full)) (is_symbol_of (whole_told full)) claim
+  pub judged : IfSome witness (λ text. IsShort text → JudgesFullWithRises full text verdict firsts)
+  pub claims : IfSome witness (λ text. IsShort text → IsAccepted verdict → claimed ≡ is_claimed claim (full_claimed full text))
+  pub outcome : told ≡ outcome claim claimed verdict
+
+-- A model is of the profile, or of the whole language, and it is judged so over it.
+abbrev pub IsJudgedOverGiven : Option (List ℕ) → Option (List ℕ) → Option (List ℕ) → GivenModel → Outcome → List (Option ℕ) → Type 0
+IsJudgedOverGiven word model witness (given_model.Profile items) told firsts = IsJudgedFor word model witness (record { model = items; outcome = told; firsts = firsts })
+IsJudgedOverGiven word model witness (given_model.Whole full) told firsts = IsJudgedWholeFor word model witness full told firsts
+
+-- what is asked for then
+abbrev pub claim_over : (word model witness : Option (List ℕ)) (m : GivenModel) (told : Outcome) (firsts : List (Option ℕ)) → IsJudgedOverGiven word model witness m told firsts → Option ℕ
+claim_over word model witness (given_model.Profile items) told firsts is = is.claim
+claim_over word model witness (given_model.Whole full) told firsts is = is.claim
+
+abbrev pub IsJudgedFittedFor : Option (List ℕ) → Option (List ℕ) → Option (List ℕ) → JudgedFitted → Type 0
+IsJudgedFittedFor word model witness r = IsJudgedOverGiven word model witness r.model r.outcome r.firsts
 
 -- The same over a circuit with a bad property, or without outputs.
 pub record IsJudgedOverFor (word circuit witness : Option (List ℕ)) (r : JudgedOverCircuit) : Type 0 where

@@ -4,10 +4,12 @@ pub mod Certificates
 pub mod Circuits
 pub mod Claims
 pub mod Conversions
+pub mod Fits
 pub mod Fitting
 pub mod Given
 pub mod Judging
 pub mod Lifting
+pub mod LiftingFitted
 pub mod Outputs
 pub mod Places
 pub mod Refusals

@@ -2,6 +2,8 @@
 use Rattle.std.specs.Prelude.{◌≡◌, ℕ, Bool, true, List, Option, None, Some, IfSome, Ok, IfErr}
 use Rattle.std.specs.Io.KnownBytes.{Appends}
 use Rattle.aiger.specs.Circuit.{Circuit}
+use Rattle.btor2.specs.declared.item.Item.{Item}
+use Rattle.witness.specs.declared.judgement.Judgement.{Judgement}
 use Rattle.engine_form.specs.EngineForm.{IsEngineFormOf}
 use Rattle.engine_form.specs.Refusal.{engine_refusal}
 use Rattle.lift.specs.EngineLifting.{LiftsForm, LiftsRestored}
@@ -15,14 +17,18 @@ use Rattle.verbs.specs.Given.{IsLowered}
 use Rattle.verbs.specs.declared.lifting.FoundLifted.{FoundLifted}
 use Rattle.verbs.specs.declared.lifting.Lifted.{Lifted}
 
--- The first text is of a model, which a circuit lowers of which a witness can claim a bad property that was meant; the second is judged so over that circuit; what was written is what it is lifted to, with names or without, of which the same verdict is judged over the model; and with names these are the first rises.
+-- A witness of the circuit of a model is judged so over that; what was written is what it is lifted to, with names or without, of which the same verdict is judged over the model; and with names these are the first rises.
+pub record LiftsWitness (named : Bool) (items : List Item) (c : Circuit) (witness before now : Option (List ℕ)) (verdict : Judgement) (firsts : List (Option ℕ)) : Type 0 where
+  pub judged : IfSome witness (λ text. BitJudges c text verdict)
+  pub rises : named ≡ true → IfSome witness (λ text. AreBitFirstRises c text firsts)
+  pub lifted : IfSome witness (λ text. Appends before now (lifted_with named items c text))
+  pub kept : IfSome witness (λ text. KeepsVerdictIn items c text (lifted_with named items c text) verdict)
+
+-- The first text is of a model, which a circuit lowers of which a witness can claim a bad property that was meant; and the second is lifted so.
 pub record IsLifted (named : Bool) (model witness before now : Option (List ℕ)) (r : Lifted) : Type 0 where
   pub lowered : IsLowered model r.lowered
   pub claimable : CanBeClaimed r.lowered.circuit
-  pub judged : IfSome witness (λ text. BitJudges r.lowered.circuit text r.judgement)
-  pub rises : named ≡ true → IfSome witness (λ text. AreBitFirstRises r.lowered.circuit text r.firsts)
-  pub lifted : IfSome witness (λ text. Appends before now (lifted_with named r.lowered.model r.lowered.circuit text))
-  pub kept : IfSome witness (λ text. KeepsVerdictIn r.lowered.model r.lowered.circuit text (lifted_with named r.lowered.model r.lowered.circuit text) r.judgement)
+  pub lifts : LiftsWitness named r.lowered.model r.lowered.circuit witness before now r.judgement r.firsts
 
 -- The first text is of a model, which a circuit lowers that has an engine form for the bad property that is claimed; and the second, a counterexample over that form, is lifted so, or its first faulty line is told, and what those before it give is lifted.
 pub record IsFoundLifted (named : Bool) (choice : Option ℕ) (model found before now : Option (List ℕ)) (r : FoundLifted) : Type 0 where

@@ -1,10 +1,10 @@
 -- Witnesses of models with words of any width: how they are judged, by the model of the profile that such a one is fitted into, and how a witness of the one becomes
 -- one of the other.
-use Rattle.std.specs.Prelude.{◌≡◌, ℕ, Bool, List, Option, Some, None, IfSome}
+use Rattle.std.specs.Prelude.{◌≡◌, ◌⊎◌, ℕ, Bool, List, Option, Some, None, IfSome}
 use Rattle.std.specs.Io.KnownBytes.{Appends}
 use Rattle.btor2.specs.declared.item.Item.{Item}
 use Rattle.btor2.specs.Lists.{first_init_without_next}
-use Rattle.fitting.specs.Models.{IsFit}
+use Rattle.fitting.specs.Models.{HaveForms, IsFit}
 use Rattle.rejoin.specs.Pieces.{joined_judgement}
 use Rattle.spread.specs.Answers as spread
 use Rattle.spread.specs.Spread.{IsShort, spread_text}
@@ -36,6 +36,7 @@ pub record IsKnown (wide : List Item) (k : Known) : Type 0 where
 pub record IsReadyFor (text : List ℕ) (r : Ready) : Type 0 where
   pub wide : List Item
   pub ready : IsReady (Some text) wide r.narrow
+  pub forms : HaveForms wide ⊎ (r.narrow ≡ wide)
   pub known : IsKnown wide r.known
 
 -- what is known of a list for the witnesses that are written of it, with names or without

@@ -3,7 +3,7 @@ use Rattle.std.specs.Prelude.{◌≡◌, ℕ, Bool, List, Option, None, IfSome, 
 use Rattle.std.specs.Io.KnownBytes.{Appends}
 use Rattle.btor2.specs.declared.item.Item.{Item}
 use Rattle.celled.specs.Written.{IsWrittenInCells}
-use Rattle.fitting.specs.Models.{IsFit, IsUnfit}
+use Rattle.fitting.specs.Models.{HaveForms, IsFit, IsUnfit}
 use Rattle.full.specs.Lines.{FullLine}
 use Rattle.fulljudge.specs.Compared.{StateWords}
 use Rattle.fulljudge.specs.Judged.{HasStateWords}
@@ -35,6 +35,7 @@ pub record IsWholeOf (full : List FullLine) (w : Whole) : Type 0 where
   pub celled : List Item
   pub written : IsWrittenInCells full celled
   pub placed : IsPlacedOf full celled written w.narrow w.words
+  pub forms : HaveForms celled
   pub shape : w.shape ≡ shape_of celled
   pub states : w.states ≡ (full_shape full).states
   pub inputs : w.inputs ≡ (full_shape full).inputs

@@ -1,6 +1,6 @@
 //! Fitting models of the whole language into models of the profile.
 
-ghost use Rattle.std.specs.Prelude.{◌≡◌, ◌≢◌, None, IfOk, IfErr, IfSome, MatchOption, OnOk, Some};
+ghost use Rattle.std.specs.Prelude.{◌≡◌, ◌≢◌, None, IfOk, IfErr, MatchOption, OnOk, Some};
 ghost use Rattle.btor2.specs.Lists.{first_init_without_next};
 ghost use Rattle.celled.specs.Written.{HasNodes, IsWrittenInCells};
 ghost use Rattle.fulltext.specs.Spelling.{StandsForFull};
@@ -52,7 +52,8 @@ fn where_ready(model: Model) -> Option<Model>
 
 /// The same of a model with words of any width.
 fn where_wide_ready(wide: WideModel) -> Option<WideModel>
-    ensures { IfSome result (λ m. (m ≡ wide) × (first_init_without_next wide wide ≡ None)) }
+    ensures { MatchOption result (first_init_without_next wide wide ≢ None)
+        (λ m. (m ≡ wide) × (first_init_without_next wide wide ≡ None)) }
 {
     match first_init_without_next(&wide) {
         Some(_) => None,
@@ -65,10 +66,12 @@ pub(crate) fn read_words(alloc: Global, text: &[u8]) -> Result<Option<WideModel>
     ensures read { IfOk result (IsOfWords text.now) }
     ensures memory { IfErr result (λ refusal. refusal ≡ Refusal.NoMemory) }
 {
+    widetext::laws::texts_are_read();
     match widetext::read(alloc, text) {
         Ok(wide) => Ok(where_wide_ready(wide)),
         Err(fault) => match fault.why {
-            Why::NoMemory => Err(Refusal::NoMemory),
+            // of a text that is held no device fails
+            Why::NoMemory | Why::Device => Err(Refusal::NoMemory),
             _ => Ok(None),
         },
     }
@@ -76,6 +79,7 @@ pub(crate) fn read_words(alloc: Global, text: &[u8]) -> Result<Option<WideModel>
 
 /// The model that a model with words of any width is fitted into, for which a text stands.
 fn fit_words(alloc: Global, text: &[u8], wide: WideModel) -> Result<Model, Refusal>
+    requires not_profile { IsProfileOf text.now None }
     requires stands { StandsForWide text.now wide }
     requires ready { first_init_without_next wide wide ≡ None }
     ensures fitted { IfOk result (IsFitText text.now) }
@@ -145,6 +149,7 @@ pub(crate) fn refusal_of_written(fault: FitFault) -> Refusal
 
 /// The model that a model of the whole language is fitted into, written out.
 fn fit_written(alloc: Global, text: &[u8], model: &FullModel) -> Result<Model, Refusal>
+    requires not_profile { IsProfileOf text.now None }
     requires stands { StandsForFull text.now model.now }
     ensures fitted { IfOk result (IsFitText text.now) }
     ensures refused { IfErr result (IfInput (IsNotFit text.now)) }
@@ -162,6 +167,7 @@ fn fit_written(alloc: Global, text: &[u8], model: &FullModel) -> Result<Model, R
 /// The model that a text is fitted into which stands for none of the profile, or for one of which a state has an init and no
 /// next.
 fn fit_whole(alloc: Global, text: &[u8]) -> Result<Model, Refusal>
+    requires not_profile { IsProfileOf text.now None }
     ensures fitted { IfOk result (IsFitText text.now) }
     ensures refused { IfErr result (IfInput (IsNotFit text.now)) }
     ensures ends { Ends result Unused Unused Unused Unused }

@@ -67,7 +67,11 @@ pub struct GivenCircuit {
 }
 
 /// The circuit that lowers a model.
-fn lower_model<W: Watch>(alloc: Global, model: &Model, watch: &mut W) -> Result<Circuit, Refusal>
+pub(crate) fn lower_model<W: Watch>(
+    alloc: Global,
+    model: &Model,
+    watch: &mut W,
+) -> Result<Circuit, Refusal>
     ensures accepted { OnOk result (lowering_refusal model.now ≡ None) }
     ensures lowers { IfOk result (Lowers model.now) }
     ensures valid { IsWellFormed model.now }

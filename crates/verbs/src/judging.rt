@@ -1,8 +1,9 @@
 //! Judging witnesses.
 
-ghost use Rattle.std.specs.Prelude.{IfOk, IfErr, option_map};
+ghost use Rattle.std.specs.Prelude.{◌≡◌, ℕ, List, Option, IfOk, IfErr, option_map};
+ghost use Rattle.btor2text.specs.Spelling.{IsModelOf};
 ghost use Rattle.invocation.specs.declared.tasks.Given.TheVariants as given_is;
-ghost use Rattle.verbs.specs.Asked.{IsNotJudgedOverWith, IsNotJudgedWith};
+ghost use Rattle.verbs.specs.Asked.{IsNotJudgedOverWith, IsNotJudgedWith, IsUnjudgedFor};
 ghost use Rattle.verbs.specs.Judging.{IsJudged, IsJudgedFor, IsJudgedOver, IsJudgedOverFor};
 ghost use Rattle.verbs.specs.Refusals.{IsNotClaimable, IsNotJudged};
 ghost use Rattle.verbs.specs.Statuses.{Ends, IfInput};
@@ -89,6 +90,37 @@ pub fn judge_over_circuit<A: Source, B: Source>(
     }
 }
 
+/// Judges whether a witness over a model is accepted and claims the bad property that a word asks for, where one does.
+pub(crate) fn judge_with_claims<B: Source>(
+    alloc: Global,
+    word: Option<&str>,
+    model: Model,
+    second: &mut B,
+) -> Result<JudgedOverModel, Refusal>
+    ensures judged { IfOk result (λ judged. (judged.model ≡ model) × ((known : Option (List ℕ))
+        → IsModelOf known model → IsJudgedFor (option_map (λ word. word.now) word.entry) known
+        (B.to_come second.old) judged)) }
+    ensures refused { IfErr result (IfInput
+        (IsUnjudgedFor (option_map (λ word. word.now) word.entry) model)) }
+    ensures ends { Ends result Unused (Used B.failures second.old second.new) Unused Unused }
+{
+    judged_claims_are_reached();
+    accepted_claims_rise();
+    exactly_one_list();
+    let claim = asked(Subject::Model(Lines::Profile(&model)), word)?;
+    match judge_words_with_rises(alloc, &model, second) {
+        Ok((judgement, firsts)) => {
+            let outcome = outcome_of(&judgement, &firsts, claim);
+            Ok(JudgedOverModel {
+                model,
+                outcome,
+                firsts,
+            })
+        }
+        Err(fault) => Err(Refusal::from(fault)),
+    }
+}
+
 /// Judges whether the second text, a witness over the model of the first, is accepted and claims the bad property that a word
 /// asks for, where one does.
 pub fn judge_for_model<A: Source, B: Source>(
@@ -105,22 +137,10 @@ pub fn judge_for_model<A: Source, B: Source>(
     ensures ends { Ends result (Used A.failures first.old first.new)
         (Used B.failures second.old second.new) Unused Unused }
 {
-    judged_claims_are_reached();
-    accepted_claims_rise();
-    exactly_one_list();
     let model = read_model(alloc, first)?;
-    let claim = asked(Subject::Model(Lines::Profile(&model)), word)?;
-    match judge_words_with_rises(alloc, &model, second) {
-        Ok((judgement, firsts)) => {
-            let outcome = outcome_of(&judgement, &firsts, claim);
-            Ok(JudgedOverModel {
-                model,
-                outcome,
-                firsts,
-            })
-        }
-        Err(fault) => Err(Refusal::from(fault)),
-    }
+    // a model's items are well-formed
+    let _ = model.items();
+    judge_with_claims(alloc, word, model, second)
 }
 
 /// The same over the circuit of the first text.

@@ -7,11 +7,13 @@ mod certifying;
 mod claims;
 mod converting;
 mod dumping;
+mod fits;
 mod fitted;
 mod given;
 mod judging;
 mod judging_whole;
 mod lifting;
+mod lifting_fitted;
 mod lowering;
 mod outcomes;
 mod owing;
@@ -33,8 +35,11 @@ pub use judging::{
     JudgedOverCircuit, JudgedOverModel, judge_for_circuit, judge_for_model, judge_over_circuit,
     judge_over_model,
 };
-pub use judging_whole::{JudgedOverWhole, judge_fitted_for};
+pub use judging_whole::{JudgedFitted, judge_fitted_for};
 pub use lifting::{FoundLifted, Lifted, lift, lift_found, lift_from_form};
+pub use lifting_fitted::{
+    FoundLiftedFitted, LiftedFitted, lift_fitted, lift_found_fitted, lift_from_form_fitted,
+};
 pub use lowering::{
     Cost, cost_of, cost_of_fitted, lower, lower_fitted, lower_fitted_for_engines, lower_for_engines,
 };

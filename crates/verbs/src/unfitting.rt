@@ -1,11 +1,11 @@
 //! Witnesses of models with words of any width, by the models of the profile that these are fitted into.
 
-ghost use Rattle.std.specs.Prelude.{◌≡◌, IfOk, IfErr, None, Some};
+ghost use Rattle.std.specs.Prelude.{◌≡◌, ◌⊎◌, IfOk, IfErr, None, Some};
 ghost use Rattle.btor2.specs.Lists.{first_init_without_next};
-ghost use Rattle.fitting.specs.Models.{IsFit};
+ghost use Rattle.fitting.specs.Models.{HaveForms, IsFit};
 ghost use Rattle.widetext.specs.Spelling.{StandsForWide};
 ghost use Rattle.verbs.specs.Unfitting.{IsJudgedWide, IsKnown, IsReadyFor, IsSpreadWide, IsUnfitAlone, IsUnfittedWide};
-ghost use Rattle.verbs.specs.Fitting.{IsNotFit, IsNotFitted};
+ghost use Rattle.verbs.specs.Fitting.{IsNotFit, IsNotFitted, IsProfileOf};
 ghost use Rattle.verbs.specs.Statuses.{Ends, IfInput};
 ghost use Rattle.verbs.specs.Whole.{IsJudgedFitted, IsJudgedWhole, IsSpread, IsSpreadWhole, IsUnfitted, IsUnfittedWhole};
 ghost use Rattle.verbs.specs.Statuses.Use.{Unused, Used};
@@ -36,7 +36,7 @@ pub(crate) struct Ready {
     /// What is known of it.
     known: Known,
     /// The model of the profile that it is fitted into.
-    narrow: Model,
+    pub(crate) narrow: Model,
 }
 
 /// What is known of a model.
@@ -53,6 +53,7 @@ fn known_of(alloc: Global, wide: &WideModel) -> Result<Known, Refusal>
 fn narrow_of(alloc: Global, text: &[u8], wide: WideModel) -> Result<Model, Refusal>
     requires stands { StandsForWide text.now wide }
     ensures fit { IfOk result (IsFit wide) }
+    ensures forms { IfOk result (λ narrow. HaveForms wide ⊎ (narrow ≡ wide)) }
     ensures refused { IfErr result (IfInput (IsUnfitAlone text.now)) }
     ensures ends { Ends result Unused Unused Unused Unused }
 {
@@ -66,7 +67,7 @@ fn narrow_of(alloc: Global, text: &[u8], wide: WideModel) -> Result<Model, Refus
 }
 
 /// What is needed of a model each of whose states has a next or is free, for which a text stands.
-fn ready_of(alloc: Global, text: &[u8], wide: WideModel) -> Result<Ready, Refusal>
+pub(crate) fn ready_of(alloc: Global, text: &[u8], wide: WideModel) -> Result<Ready, Refusal>
     requires stands { StandsForWide text.now wide }
     requires ready { first_init_without_next wide wide ≡ None }
     ensures ready { IfOk result (IsReadyFor text.now) }
@@ -119,6 +120,7 @@ fn judge_by_whole<B: Source>(
     text: &[u8],
     second: &mut B,
 ) -> Result<Judgement, Refusal>
+    requires not_profile { IsProfileOf text.now None }
     ensures judged { IfOk result (IsJudgedWhole (Some text.now) (B.to_come second.old)) }
     ensures refused { IfErr result (IfInput (IsNotFit text.now)) }
     ensures ends { Ends result Unused (Used B.failures second.old second.new) Unused Unused }
@@ -138,6 +140,7 @@ fn judge_over_text<B: Source>(
     ensures refused { IfErr result (IfInput (IsNotFit text.now)) }
     ensures ends { Ends result Unused (Used B.failures second.old second.new) Unused Unused }
 {
+    widetext::laws::profile_is_read();
     match read_words(alloc, text)? {
         Some(wide) => judge_by_words(alloc, text, wide, second),
         None => judge_by_whole(alloc, text, second),
@@ -209,6 +212,7 @@ fn spread_by_whole<B: Source, O: Sink>(
     second: &mut B,
     out: &mut O,
 ) -> Result<Judgement, Refusal>
+    requires not_profile { IsProfileOf text.now None }
     ensures spread { IfOk result (IsSpreadWhole (Some text.now) (B.to_come second.old)
         (O.written out.old) (O.written out.new)) }
     ensures refused { IfErr result (IfInput (IsNotFit text.now)) }
@@ -233,6 +237,7 @@ fn spread_over_text<B: Source, O: Sink>(
     ensures ends { Ends result Unused (Used B.failures second.old second.new)
         (Used O.failures out.old out.new) Unused }
 {
+    widetext::laws::profile_is_read();
     match read_words(alloc, text)? {
         Some(wide) => spread_by_words(alloc, text, wide, second, out),
         None => spread_by_whole(alloc, text, second, out),
@@ -259,7 +264,7 @@ pub fn spread<A: Source, B: Source, O: Sink>(
 
 /// Writes the witness of the model with words of any width of a text, with names or without, that says what a witness says of the
 /// model that it is fitted into, and answers what is judged of it.
-fn unfit_ready<B: Source, O: Sink>(
+pub(crate) fn unfit_ready<B: Source, O: Sink>(
     alloc: Global,
     named: bool,
     text: &[u8],
@@ -268,8 +273,9 @@ fn unfit_ready<B: Source, O: Sink>(
     out: &mut O,
 ) -> Result<Judgement, Refusal>
     requires ready { IsReadyFor text.now ready.now }
-    ensures unfitted { IfOk result (IsUnfittedWide named (Some text.now) (B.to_come second.old)
-        (O.written out.old) (O.written out.new)) }
+    ensures unfitted { IfOk result (λ judgement. (unfitted : IsUnfittedWide named (Some text.now)
+        (B.to_come second.old) (O.written out.old) (O.written out.new) judgement)
+        × (unfitted.narrow ≡ ready.now.narrow)) }
     ensures refused { IfErr result (IfInput (λ f. ⊥)) }
     ensures ends { Ends result Unused (Used B.failures second.old second.new)
         (Used O.failures out.old out.new) Unused }
@@ -317,6 +323,7 @@ fn unfit_by_whole<B: Source, O: Sink>(
     second: &mut B,
     out: &mut O,
 ) -> Result<Judgement, Refusal>
+    requires not_profile { IsProfileOf text.now None }
     ensures unfitted { IfOk result (IsUnfittedWhole named (Some text.now) (B.to_come second.old)
         (O.written out.old) (O.written out.new)) }
     ensures refused { IfErr result (IfInput (IsNotFit text.now)) }
@@ -342,6 +349,7 @@ fn unfit_over_text<B: Source, O: Sink>(
     ensures ends { Ends result Unused (Used B.failures second.old second.new)
         (Used O.failures out.old out.new) Unused }
 {
+    widetext::laws::profile_is_read();
     match read_words(alloc, text)? {
         Some(wide) => unfit_by_words(alloc, named, text, wide, second, out),
         None => unfit_by_whole(alloc, named, text, second, out),

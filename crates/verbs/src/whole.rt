@@ -1,6 +1,7 @@
 //! Witnesses of models of the whole language, by the models of the profile that these are fitted into.
 
-ghost use Rattle.std.specs.Prelude.{◌≡◌, ◌++◌, IfErr, IfOk, IfSome};
+ghost use Rattle.std.specs.Prelude.{◌≡◌, ◌++◌, IfErr, IfOk, IfSome, OnOk};
+ghost use Rattle.fitting.specs.Models.{HaveForms};
 ghost use Rattle.fulljudge.specs.Rises.{JudgesFullWithRises};
 ghost use Rattle.spread.specs.Spread.{IsShort};
 ghost use Rattle.celled.specs.Written.{HasNodes, IsWrittenInCells};
@@ -34,7 +35,7 @@ pub(crate) struct Whole {
     /// What a witness needs to know of the list that it is written out as, with a leaf for each cell of an array.
     shape: Shape,
     /// The model of the profile that this is fitted into.
-    narrow: Model,
+    pub(crate) narrow: Model,
 }
 
 /// The nodes with the words of states, those of their leaves first.
@@ -54,6 +55,7 @@ fn placed(alloc: Global, model: &FullModel, celled: Celled) -> Result<(Model, St
     requires written { (w : IsWrittenInCells model.now celled.list) × HasNodes model.now celled.list w celled.leaves.items celled.nodes.items }
     ensures placed { IfOk result (λ r. (w : IsWrittenInCells model.now celled.list) → HasNodes model.now celled.list w celled.leaves.items celled.nodes.items
         → IsPlacedOf model.now celled.list w r.0 r.1) }
+    ensures forms { OnOk result (HaveForms celled.list) }
     ensures refused { IfErr result (IfInput (IsNotWhole model.now)) }
     ensures ends { Ends result Unused Unused Unused Unused }
 {
@@ -188,8 +190,9 @@ pub(crate) fn unfit_whole<B: Source, O: Sink>(
     out: &mut O,
 ) -> Result<Judgement, Refusal>
     requires whole { IsWholeOf model.now whole.now }
-    ensures unfitted { IfOk result (IsUnfittedByWhole named model.now (B.to_come second.old)
-        (O.written out.old) (O.written out.new)) }
+    ensures unfitted { IfOk result (λ judgement. (unfitted : IsUnfittedByWhole named model.now
+        (B.to_come second.old) (O.written out.old) (O.written out.new) judgement)
+        × (unfitted.narrow ≡ whole.now.narrow)) }
     ensures refused { IfErr result (IfInput (λ f. ⊥)) }
     ensures ends { Ends result Unused (Used B.failures second.old second.new)
         (Used O.failures out.old out.new) Unused }

@@ -12,6 +12,8 @@ use Rattle.invocation.specs.declared.tasks.CertificateTask.TheVariants as certif
 use Rattle.invocation.specs.declared.tasks.Certified.{Certified}
 use Rattle.invocation.specs.declared.tasks.CircuitTask.TheVariants as circuit
 use Rattle.invocation.specs.declared.tasks.Given.TheVariants as given
+use Rattle.invocation.specs.declared.tasks.Language.{Language}
+use Rattle.invocation.specs.declared.tasks.Language.TheVariants as language
 use Rattle.invocation.specs.declared.tasks.ListOrder.{ListOrder}
 use Rattle.invocation.specs.declared.tasks.ModelTask.TheVariants as model
 use Rattle.invocation.specs.declared.tasks.Order.{Order}
@@ -73,6 +75,10 @@ fits ps _ name _ = false
 abbrev pub position : List Said → Option ℕ
 position ps = option_and_then number_of (value (codes "bad") ps)
 
+-- which models the first file of `lift` may be of
+abbrev pub language_of : List Said → Language
+language_of ps = if has (codes "fit") ps then language.Whole else language.Profile
+
 -- what a certificate is about: a bad property of a model or a circuit, by an invariant or by a witness circuit of either
 abbrev pub certified : List Said → Certified
 certified ps = record {
@@ -98,8 +104,8 @@ task_of verb.AigConvert ps = Some (task.Circuit
     else (if has (codes "outputs") ps then circuit.ConvertOutputs else circuit.AigConvert)))
 task_of verb.CheckAig ps = Some (task.Circuit circuit.CheckAig)
 task_of verb.Lift ps = Some (task.Model
-    (if has (codes "abc") ps then model.LiftFound (position ps)
-    else (if has (codes "engine") ps then model.LiftForm (position ps) else model.Lift)))
+    (if has (codes "abc") ps then model.LiftFound (language_of ps) (position ps)
+    else (if has (codes "engine") ps then model.LiftForm (language_of ps) (position ps) else model.Lift (language_of ps))))
 task_of verb.Restore ps = Some (task.Circuit (if has (codes "abc") ps then circuit.Restore (position ps) else circuit.RestoreForm (position ps)))
 task_of verb.Wave ps = Some (task.Model (model.Wave (if has (codes "all") ps then shown.All else shown.Named)))
 task_of verb.Obligation ps = Some (task.Certificate (certificate.Obligation (certified ps)))

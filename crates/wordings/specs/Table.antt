@@ -55,7 +55,7 @@ words_of verb.CheckAig =
 words_of verb.Lift =
     (codes "MODEL", kind.File) ∷ (codes "quiet", kind.Flag) ∷ (codes "WITNESS", kind.File)
     ∷ (codes "output", kind.Text) ∷ (codes "names", kind.Flag) ∷ (codes "engine", kind.Flag)
-    ∷ (codes "abc", kind.FlagWithEngine) ∷ (codes "bad", kind.PositionWithEngine) ∷ []
+    ∷ (codes "abc", kind.FlagWithEngine) ∷ (codes "bad", kind.PositionWithEngine) ∷ (codes "fit", kind.FlagOnModel) ∷ []
 words_of verb.Restore =
     (codes "CIRCUIT", kind.File) ∷ (codes "quiet", kind.Flag) ∷ (codes "WITNESS", kind.File)
     ∷ (codes "output", kind.Text) ∷ (codes "abc", kind.Flag) ∷ (codes "bad", kind.Position) ∷ []

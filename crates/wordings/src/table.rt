@@ -301,6 +301,7 @@ pub fn words_of(verb: Verb) -> &'static [Word]
             ENGINE,
             ENGINE_ABC,
             ENGINE_BAD,
+            FIT,
         ],
         Verb::Restore => &[CIRCUIT_FILE, QUIET, WITNESS_FILE, OUTPUT, ABC, BAD],
         Verb::Wave => &[MODEL_FILE, QUIET, WITNESS_FILE, OUTPUT, ALL],

@@ -7,7 +7,7 @@ ghost use Rattle.certificates.specs.declared.proof_form.ProofForm.TheVariants as
 ghost use Rattle.invocation.specs.declared.tasks.Certificate.TheVariants as by;
 ghost use Rattle.invocation.specs.declared.tasks.Given.TheVariants as given;
 ghost use Rattle.wordings.specs.declared.table.Verb.TheVariants as verb;
-ghost use Rattle.wordings.specs.Orders.{certified, has, judges, position, task_of, value};
+ghost use Rattle.wordings.specs.Orders.{certified, has, judges, language_of, position, task_of, value};
 ghost use Rattle.wordings.specs.Values.{said};
 
 use crate::contents::{has, value};
@@ -16,7 +16,8 @@ use crate::table::Verb;
 use base::decimal;
 use certificates::ProofForm;
 use invocation::{
-    Certificate, CertificateTask, Certified, CircuitTask, Given, ModelTask, Task, TextTask,
+    Certificate, CertificateTask, Certified, CircuitTask, Given, Language, ModelTask, Task,
+    TextTask,
 };
 use vcd::Shown;
 
@@ -132,16 +133,27 @@ fn converts(parts: &[Part<'_>]) -> Task
     Task::Circuit(task)
 }
 
+/// Which models the first file of `lift` may be of.
+fn language(parts: &[Part<'_>]) -> Language
+    ensures { result ≡ language_of (map said parts.now) }
+{
+    if has("fit", parts) {
+        Language::Whole
+    } else {
+        Language::Profile
+    }
+}
+
 /// The task of `lift`.
 fn lifts(parts: &[Part<'_>]) -> Task
     ensures { Some result ≡ task_of verb.Lift (map said parts.now) }
 {
     let task = if has("abc", parts) {
-        ModelTask::LiftFound(position(parts))
+        ModelTask::LiftFound(language(parts), position(parts))
     } else if has("engine", parts) {
-        ModelTask::LiftForm(position(parts))
+        ModelTask::LiftForm(language(parts), position(parts))
     } else {
-        ModelTask::Lift
+        ModelTask::Lift(language(parts))
     };
     Task::Model(task)
 }

@@ -9,6 +9,7 @@ ghost use Rattle.invocation.specs.declared.tasks.Certificate.TheVariants as by;
 ghost use Rattle.invocation.specs.declared.tasks.CertificateTask.TheVariants as certificate;
 ghost use Rattle.invocation.specs.declared.tasks.CircuitTask.TheVariants as circuit;
 ghost use Rattle.invocation.specs.declared.tasks.Given.TheVariants as given;
+ghost use Rattle.invocation.specs.declared.tasks.Language.TheVariants as language;
 ghost use Rattle.invocation.specs.declared.tasks.ListOrder.{ListOrder};
 ghost use Rattle.invocation.specs.declared.tasks.ModelTask.TheVariants as model;
 ghost use Rattle.invocation.specs.declared.tasks.Order.{Order};
@@ -90,7 +91,11 @@ pub fn worked_check_aig()
 /// Worked rows, with no code: words that say `lift`, and words that say nothing.
 pub fn worked_lift()
     ensures says { (first second : Bor (List ℕ)) → first.now ≡ codes "m" → second.now ≡ codes "w"
-        → Says (codes "lift" ∷ codes "--engine" ∷ codes "--abc" ∷ codes "m" ∷ codes "w" ∷ []) (request.One (record { task = task.Model (model.LiftFound None); named = false; as_json = false; asked = None; form = form.Ascii; first = first; second = Some second; third = None; output = None; tells_progress = true })) }
+        → Says (codes "lift" ∷ codes "--engine" ∷ codes "--abc" ∷ codes "m" ∷ codes "w" ∷ []) (request.One (record { task = task.Model (model.LiftFound language.Profile None); named = false; as_json = false; asked = None; form = form.Ascii; first = first; second = Some second; third = None; output = None; tells_progress = true })) }
+    ensures fitted { (first second : Bor (List ℕ)) → first.now ≡ codes "m" → second.now ≡ codes "w"
+        → Says (codes "lift" ∷ codes "--fit" ∷ codes "m" ∷ codes "w" ∷ []) (request.One (record { task = task.Model (model.Lift language.Whole); named = false; as_json = false; asked = None; form = form.Ascii; first = first; second = Some second; third = None; output = None; tells_progress = true })) }
+    ensures fitted_found { (first second : Bor (List ℕ)) → first.now ≡ codes "m" → second.now ≡ codes "w"
+        → Says (codes "lift" ∷ codes "--engine" ∷ codes "--abc" ∷ codes "--fit" ∷ codes "m" ∷ codes "w" ∷ []) (request.One (record { task = task.Model (model.LiftFound language.Whole None); named = false; as_json = false; asked = None; form = form.Ascii; first = first; second = Some second; third = None; output = None; tells_progress = true })) }
     ensures none { (o : Order) → ¬ Says (codes "lift" ∷ codes "--abc" ∷ codes "m" ∷ codes "w" ∷ []) (request.One o) }
 {}
 

@@ -1,4 +1,5 @@
 use Rattle.std.proofs.Common.{rules, ◌≡◌, refl}
+use Rattle.invocation.specs.declared.tasks.Language.TheVariants as language
 use Rattle.invocation.specs.declared.tasks.ModelTask.TheVariants as model
 use Rattle.verbs.proofs.CountLemmas.{as_is, as_was, ends_as, idle, unfailed}
 use Rattle.subcommands.proofs.AnswerLemmas.{answered_done, answered_ends, answered_refused}
@@ -65,41 +66,77 @@ returns-in-Cost-clause-done g c = λ third.
 pub returns-in-Cost-clause-ends : goal.returns-in-Cost-clause-ends
 returns-in-Cost-clause-ends g c = ends_as as_is (unfailed refl) as_was idle c.tell_cost.ensures.ends
 
-pub returns-in-Lift-clause-done : goal.returns-in-Lift-clause-done
+pub returns-in-Lift-Profile-clause-done : goal.returns-in-Lift-Profile-clause-done
 unfolding Answers
-returns-in-Lift-clause-done g c = λ third.
-    let is : c.args.task ≡ model.Lift = search rules in
+returns-in-Lift-Profile-clause-done g c = λ third.
+    let is : c.args.task ≡ (model.Lift language.Profile) = search rules in
     rw is c.lift_witness.ensures.done
 
-pub returns-in-Lift-clause-refused : goal.returns-in-Lift-clause-refused
+pub returns-in-Lift-Profile-clause-refused : goal.returns-in-Lift-Profile-clause-refused
 unfolding RefusesTask
-returns-in-Lift-clause-refused g c =
-    let is : c.args.task ≡ model.Lift = search rules in
+returns-in-Lift-Profile-clause-refused g c =
+    let is : c.args.task ≡ (model.Lift language.Profile) = search rules in
     rw is c.lift_witness.ensures.refused
 
-pub returns-in-LiftFound-clause-done : goal.returns-in-LiftFound-clause-done
+pub returns-in-LiftFound-Profile-default-clause-done : goal.returns-in-LiftFound-Profile-default-clause-done
 unfolding Answers
-returns-in-LiftFound-clause-done g c = λ third.
-    let is : c.args.task ≡ (model.LiftFound c.in-LiftFound.choice) = search rules in
+returns-in-LiftFound-Profile-default-clause-done g c = λ third.
+    let is : c.args.task ≡ (model.LiftFound language.Profile c.in-LiftFound-Profile-default.choice) = search rules in
     rw is c.lift_counterexample.ensures.done
 
-pub returns-in-LiftFound-clause-refused : goal.returns-in-LiftFound-clause-refused
+pub returns-in-LiftFound-Profile-default-clause-refused : goal.returns-in-LiftFound-Profile-default-clause-refused
 unfolding RefusesTask
-returns-in-LiftFound-clause-refused g c =
-    let is : c.args.task ≡ (model.LiftFound c.in-LiftFound.choice) = search rules in
+returns-in-LiftFound-Profile-default-clause-refused g c =
+    let is : c.args.task ≡ (model.LiftFound language.Profile c.in-LiftFound-Profile-default.choice) = search rules in
     rw is c.lift_counterexample.ensures.refused
 
-pub returns-in-LiftForm-clause-done : goal.returns-in-LiftForm-clause-done
+pub returns-in-LiftForm-Profile-default-clause-done : goal.returns-in-LiftForm-Profile-default-clause-done
 unfolding Answers
-returns-in-LiftForm-clause-done g c = λ third.
-    let is : c.args.task ≡ (model.LiftForm c.in-LiftForm.choice) = search rules in
+returns-in-LiftForm-Profile-default-clause-done g c = λ third.
+    let is : c.args.task ≡ (model.LiftForm language.Profile c.in-LiftForm-Profile-default.choice) = search rules in
     rw is c.lift_form_witness.ensures.done
 
-pub returns-in-LiftForm-clause-refused : goal.returns-in-LiftForm-clause-refused
+pub returns-in-LiftForm-Profile-default-clause-refused : goal.returns-in-LiftForm-Profile-default-clause-refused
 unfolding RefusesTask
-returns-in-LiftForm-clause-refused g c =
-    let is : c.args.task ≡ (model.LiftForm c.in-LiftForm.choice) = search rules in
+returns-in-LiftForm-Profile-default-clause-refused g c =
+    let is : c.args.task ≡ (model.LiftForm language.Profile c.in-LiftForm-Profile-default.choice) = search rules in
     rw is c.lift_form_witness.ensures.refused
+
+pub returns-in-Lift-Whole-clause-done : goal.returns-in-Lift-Whole-clause-done
+unfolding Answers
+returns-in-Lift-Whole-clause-done g c = λ third.
+    let is : c.args.task ≡ (model.Lift language.Whole) = search rules in
+    rw is c.lift_fitted_witness.ensures.done
+
+pub returns-in-Lift-Whole-clause-refused : goal.returns-in-Lift-Whole-clause-refused
+unfolding RefusesTask
+returns-in-Lift-Whole-clause-refused g c =
+    let is : c.args.task ≡ (model.Lift language.Whole) = search rules in
+    rw is c.lift_fitted_witness.ensures.refused
+
+pub returns-in-LiftFound-Whole-default-clause-done : goal.returns-in-LiftFound-Whole-default-clause-done
+unfolding Answers
+returns-in-LiftFound-Whole-default-clause-done g c = λ third.
+    let is : c.args.task ≡ (model.LiftFound language.Whole c.in-LiftFound-Whole-default.choice) = search rules in
+    rw is c.lift_fitted_counterexample.ensures.done
+
+pub returns-in-LiftFound-Whole-default-clause-refused : goal.returns-in-LiftFound-Whole-default-clause-refused
+unfolding RefusesTask
+returns-in-LiftFound-Whole-default-clause-refused g c =
+    let is : c.args.task ≡ (model.LiftFound language.Whole c.in-LiftFound-Whole-default.choice) = search rules in
+    rw is c.lift_fitted_counterexample.ensures.refused
+
+pub returns-in-LiftForm-Whole-default-clause-done : goal.returns-in-LiftForm-Whole-default-clause-done
+unfolding Answers
+returns-in-LiftForm-Whole-default-clause-done g c = λ third.
+    let is : c.args.task ≡ (model.LiftForm language.Whole c.in-LiftForm-Whole-default.choice) = search rules in
+    rw is c.lift_fitted_form_witness.ensures.done
+
+pub returns-in-LiftForm-Whole-default-clause-refused : goal.returns-in-LiftForm-Whole-default-clause-refused
+unfolding RefusesTask
+returns-in-LiftForm-Whole-default-clause-refused g c =
+    let is : c.args.task ≡ (model.LiftForm language.Whole c.in-LiftForm-Whole-default.choice) = search rules in
+    rw is c.lift_fitted_form_witness.ensures.refused
 
 pub returns-in-Wave-clause-done : goal.returns-in-Wave-clause-done
 unfolding Answers

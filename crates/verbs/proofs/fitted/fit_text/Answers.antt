@@ -24,3 +24,6 @@ returns-in-Some-clause-kept c = λ items stands ready. c.one_model.ensures.same 
 
 pub returns-in-None-clause-kept : goal.returns-in-None-clause-kept
 returns-in-None-clause-kept c = all_kept c.fit_whole.result c.args.text.now (subst (IsProfileOf c.args.text.now) c.in-None.is c.in_ok-model.ensures.read)
+
+pub fit_whole-requires : goal.fit_whole-requires
+fit_whole-requires c = record { not_profile = subst (IsProfileOf c.args.text.now) c.in-None.is c.in_ok-model.ensures.read }

@@ -24,4 +24,4 @@ returns-in-Ok-clause-fitted c =
 
 pub returns-in-Err-clause-refused : goal.returns-in-Err-clause-refused
 returns-in-Err-clause-refused c =
-    rw c.refusal_of_written.ensures (not_fit_written c.args.text.now c.args.model.now c.in_ok-wide.wide c.in-Err.fault c.requires.stands c.in_ok-wide.ensures.written c.in-Err.ensures.refused)
+    rw c.refusal_of_written.ensures (not_fit_written c.args.text.now c.args.model.now c.in_ok-wide.wide c.in-Err.fault c.requires.not_profile c.requires.stands c.in_ok-wide.ensures.written c.in-Err.ensures.refused)

@@ -31,10 +31,7 @@ pub returns-in-Ok-clause-lifted : goal.returns-in-Ok-clause-lifted
 returns-in-Ok-clause-lifted g c = record {
   lowered = c.in_ok-lowered.ensures.lowered;
   claimable = c.in_ok-claimable.ensures.claimable;
-  judged = c.in-Ok.ensures.judged;
-  rises = c.in-Ok.ensures.rises;
-  lifted = c.in-Ok.ensures.written;
-  kept = c.in-Ok.ensures.kept;
+  lifts = record { judged = c.in-Ok.ensures.judged; rises = c.in-Ok.ensures.rises; lifted = c.in-Ok.ensures.written; kept = c.in-Ok.ensures.kept };
 }
 
 pub returns-in-Err-clause-refused : goal.returns-in-Err-clause-refused

@@ -6,7 +6,7 @@ use Rattle.verbs.proofs.unfitting.judge_by_whole.Goals as goal
 pub returns-in_err-whole-clause-refused : goal.returns-in_err-whole-clause-refused
 returns-in_err-whole-clause-refused g c =
     let is : c.from_residual-in_err-whole.result ≡ Err c.in_err-whole.field-0.0 = search rules in
-    rw is (not_fit_whole c.args.text.now c.in_ok-model.model c.in_err-whole.field-0.0 c.in_ok-model.ensures.stands c.in_err-whole.ensures.refused)
+    rw is (not_fit_whole c.args.text.now c.in_ok-model.model c.in_err-whole.field-0.0 c.requires.not_profile c.in_ok-model.ensures.stands c.in_err-whole.ensures.refused)
 
 pub returns-in_err-whole-clause-ends : goal.returns-in_err-whole-clause-ends
 returns-in_err-whole-clause-ends g c =

@@ -6,7 +6,7 @@ use Rattle.verbs.proofs.unfitting.unfit_by_whole.Goals as goal
 pub returns-in_err-whole-clause-refused : goal.returns-in_err-whole-clause-refused
 returns-in_err-whole-clause-refused g c =
     let is : c.from_residual-in_err-whole.result ≡ Err c.in_err-whole.field-0.0 = search rules in
-    rw is (not_fit_whole c.args.text.now c.in_ok-model.model c.in_err-whole.field-0.0 c.in_ok-model.ensures.stands c.in_err-whole.ensures.refused)
+    rw is (not_fit_whole c.args.text.now c.in_ok-model.model c.in_err-whole.field-0.0 c.requires.not_profile c.in_ok-model.ensures.stands c.in_err-whole.ensures.refused)
 
 pub returns-in_err-whole-clause-ends : goal.returns-in_err-whole-clause-ends
 returns-in_err-whole-clause-ends g c =
@@ -14,7 +14,7 @@ returns-in_err-whole-clause-ends g c =
     ends_as as_is (unfailed refl) idle as_was (handed_on is c.in_err-whole.ensures.ends)
 
 pub returns-clause-unfitted : goal.returns-clause-unfitted
-returns-clause-unfitted g c = unfitted_over_text c.args.named c.unfit_whole.result c.args.text.now c.in_ok-model.model _ _ _ c.in_ok-model.ensures.stands c.unfit_whole.ensures.unfitted
+returns-clause-unfitted g c = unfitted_over_text c.args.named c.unfit_whole.result c.args.text.now c.in_ok-model.model _ _ _ _ c.in_ok-model.ensures.stands c.unfit_whole.ensures.unfitted
 
 pub returns-clause-refused : goal.returns-clause-refused
 returns-clause-refused g c = never_refused c.unfit_whole.result _ c.unfit_whole.ensures.refused

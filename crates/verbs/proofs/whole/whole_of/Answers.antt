@@ -35,6 +35,7 @@ returns-clause-whole c =
       celled = c.in_ok-celled.celled.list;
       written = w.0;
       placed = c.in_ok-narrow.ensures.placed w.0 w.1;
+      forms = c.in_ok-narrow.ensures.forms;
       shape = c.in_ok-shape.ensures;
       states = c.in_ok-states.ensures;
       inputs = c.in_ok-inputs.ensures;
