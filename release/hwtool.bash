@@ -18,7 +18,7 @@ _hwtool() {
         unfit) words='--quiet --output --names --back --help' ;;
         aig-convert) words='--quiet --output --ascii --binary --outputs --engine --bad --help' ;;
         check-aig) words='--quiet --names --bad --json --help' ;;
-        lift) words='--quiet --output --names --engine --abc --bad --help' ;;
+        lift) words='--quiet --output --names --engine --abc --bad --fit --help' ;;
         restore) words='--quiet --output --abc --bad --help' ;;
         wave) words='--quiet --output --all --help' ;;
         obligation) words='--quiet --output --aiger --circuit --engine --bad --fit --help' ;;

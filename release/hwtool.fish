@@ -56,6 +56,7 @@ complete -c hwtool -n '__fish_seen_subcommand_from lift' -l names -d 'Write symb
 complete -c hwtool -n '__fish_seen_subcommand_from lift' -l engine -d 'The witness is one of the engine form of the model'\''s circuit'
 complete -c hwtool -n '__fish_seen_subcommand_from lift' -l abc -d 'With --engine, the counterexample is in the form that ABC writes'
 complete -c hwtool -n '__fish_seen_subcommand_from lift' -l bad -x -d 'With --engine, the position of the bad property that the form was made for, from 0; with --abc it says which is claimed, and is needed where the model has more than one'
+complete -c hwtool -n '__fish_seen_subcommand_from lift' -l fit -d 'Take what fit takes, a model of the whole language, which is fitted first; the witness that is written is one of it'
 complete -c hwtool -n '__fish_seen_subcommand_from lift' -l help -s h -d 'Print help'
 complete -c hwtool -n __fish_use_subcommand -f -a restore -d 'Restore a witness of the engine form of a circuit to an AIGER witness of the circuit on standard output'
 complete -c hwtool -n '__fish_seen_subcommand_from restore' -l quiet -d 'Do not tell on a terminal how far work is that takes more than two seconds'

@@ -29,7 +29,7 @@ extern "C" {
 #endif
 
 /* The version of the library that this header goes with. */
-#define HWTOOL_VERSION "0.15.0"
+#define HWTOOL_VERSION "0.16.0"
 
 /* The statuses. */
 enum {
@@ -93,8 +93,8 @@ uint32_t hwtool_check_btor_claims(const uint8_t *model, size_t model_length, boo
                                   size_t witness_length, struct hwtool_verdict *verdict, struct hwtool_claim *claims,
                                   size_t claims_length, size_t *needed, struct hwtool_refusal *refusal);
 
-/* The same of a BTOR2 model that hwtool_fit takes, without justice and fairness. MODEL_REFUSED where there is no such bad property, it
- * has justice or fairness, or hwtool_fit does not take it. What hwtool_unfit writes is such a witness. */
+/* The same of a BTOR2 model that hwtool_fit takes. MODEL_REFUSED where there is no such bad property, or hwtool_fit does not take it.
+ * What hwtool_unfit writes is such a witness. */
 uint32_t hwtool_check_btor_fit_claims(const uint8_t *model, size_t model_length, bool chosen, size_t bad, const uint8_t *witness,
                                       size_t witness_length, struct hwtool_verdict *verdict, struct hwtool_claim *claims,
                                       size_t claims_length, size_t *needed, struct hwtool_refusal *refusal);
@@ -182,6 +182,24 @@ uint32_t hwtool_lift_engine(const uint8_t *model, size_t model_length, bool chos
 uint32_t hwtool_lift_engine_abc(const uint8_t *model, size_t model_length, size_t bad, bool names, const uint8_t *found,
                                 size_t found_length, struct hwtool_verdict *verdict, uint8_t *buffer, size_t buffer_length,
                                 size_t *needed, struct hwtool_refusal *refusal);
+
+/* hwtool_lift, with `names` or without, of a BTOR2 model that hwtool_fit takes: the witness is one of the circuit of what that writes, and
+ * what is written is the model's, as hwtool_unfit has it. The verdict is what is judged of this over the model, where the witness claims
+ * a bad property and no line is faulty. Answers DONE and TOO_SMALL with `verdict` and `needed`, TEXT_REFUSED, MODEL_REFUSED (hwtool_fit
+ * does not take the model, or what it writes is not lowered, or has outputs and no bad property), NO_MEMORY. */
+uint32_t hwtool_lift_fit(const uint8_t *model, size_t model_length, bool names, const uint8_t *witness, size_t witness_length,
+                         struct hwtool_verdict *verdict, uint8_t *buffer, size_t buffer_length, size_t *needed,
+                         struct hwtool_refusal *refusal);
+
+/* The same of a witness as hwtool_lift_engine takes it. MODEL_REFUSED also where there is no such form. */
+uint32_t hwtool_lift_engine_fit(const uint8_t *model, size_t model_length, bool chosen, size_t bad, bool names,
+                                const uint8_t *witness, size_t witness_length, struct hwtool_verdict *verdict, uint8_t *buffer,
+                                size_t buffer_length, size_t *needed, struct hwtool_refusal *refusal);
+
+/* The same of a counterexample as hwtool_restore_abc takes it. */
+uint32_t hwtool_lift_engine_abc_fit(const uint8_t *model, size_t model_length, size_t bad, bool names, const uint8_t *found,
+                                    size_t found_length, struct hwtool_verdict *verdict, uint8_t *buffer, size_t buffer_length,
+                                    size_t *needed, struct hwtool_refusal *refusal);
 
 /* Judges a witness of a BTOR2 model, and writes its frames as a value change dump with a title in its comment: of nodes that
  * are no inputs, states, properties or outputs those that have a symbol, or `all`. Answers as hwtool_lift. */
