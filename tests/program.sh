@@ -130,7 +130,7 @@ expect_line "help" out "The file - is standard input. A file is read to its end,
 expect_line "help" out "  2  the input is refused"
 "$program" --version >out 2>err; status=$?
 expect "version" 0 ""
-expect_line "version" out "hwtool 0.15.0"
+expect_line "version" out "hwtool 0.16.0"
 
 # certificates, kept in examples/: what holds, a file that is not there, and one file on standard input
 for name in wraps guarded followers; do
